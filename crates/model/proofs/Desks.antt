@@ -1,0 +1,249 @@
+-- Small runs on which the definitions are computed: the run of two desks with its marked cases, and what those cases leave open.
+use mathlib.Core.Path.{_≡_, refl}
+use mathlib.Core.Bool.{Bool, true, false}
+use mathlib.Core.List.{List, [], _∷_, List·Memᴰ, List·Memᴰ·head, List·Memᴰ·tail}
+use mathlib.Core.Logic.{inl}
+use mathlib.Core.Option.{Option, some, none}
+use Prim.Native.Nat.{ℕ, zero, suc, _+_}
+use native.Mathlib.Omega.{arith}
+use lib.IntN.{ℤ, pos, negsuc}
+use lib.ListN.{length, take}
+use Rattle.model.specs.declared.Message.{Message}
+use Rattle.model.specs.declared.Event.{Event}
+use Rattle.model.specs.declared.Event.the-variants.{Start, Internal, Send, Receive}
+use Rattle.model.specs.Run.{Run, State, history, state, into, paired, Known}
+use Rattle.model.specs.Cut.{Before, AfterCircle, ClockIs, at, sends, waiting, between, inTransit, SameUpTo}
+use Rattle.model.specs.Cut.Before.{next, message, through}
+use Rattle.model.specs.Clause.{Test, passes, Clause, holds, Linear, Satisfies, First}
+use Rattle.model.specs.Clause.Clause.{local, on}
+use Rattle.model.specs.Clause.Comparison.{equal, other, atMost, atLeast}
+use Rattle.model.specs.Clause.Test.{countAtMost, countAtLeast, countIs, stampIs, noStampIs, everyAtLeast, someAtMost, countOdd, countOther}
+use Rattle.model.proofs.Lists.{keep}
+use Rattle.model.proofs.Order.{clock-unique}
+use Rattle.model.proofs.Circle.{clear}
+use Rattle.model.proofs.Clock.{clock-own, clock-first, clock-receive, before-first}
+use Rattle.model.proofs.Decide.{consistent?, cutsOf, first?, first-found, none-found}
+use Rattle.model.proofs.Tested.{known-test}
+
+-- ---- a table of conditions and their answers, under one theorem
+
+pub record Case : Type 0 where
+  pub clauses : List Clause
+  pub answer : Option (List ℕ)
+
+case : List Clause → Option (List ℕ) → Case
+case k a = record { clauses = k; answer = a }
+
+-- what an answer of the search says
+abbrev pub Answer : Run → List Clause → Option (List ℕ) → Type 0
+Answer r cond none = (d : List ℕ) → ¬ Satisfies r cond d
+Answer r cond (some c) = First r cond c
+
+answered : (r : Run) → Known r → (cond : List Clause) → Linear cond → (a : Option (List ℕ)) → first? r cond ≡ a → Answer r cond a
+answered r known cond linear none e = none-found r known cond linear e
+answered r known cond linear (some c) e = first-found r known cond linear c e
+
+abbrev Computed : Run → List Case → Type 0
+Computed r [] = Unit {0}
+Computed r (k ∷ ks) = (Linear (k .clauses) × (first? r (k .clauses) ≡ k .answer)) × Computed r ks
+
+all-answered : (r : Run) → Known r → (ks : List Case) → Computed r ks → (k : Case) → List·Memᴰ k ks → Answer r (k .clauses) (k .answer)
+all-answered r known (x ∷ ks) w k (List·Memᴰ·head e) = rw e (answered r known (x .clauses) (w .0 .0) (x .answer) (w .0 .1))
+all-answered r known (x ∷ ks) w k (List·Memᴰ·tail q) = all-answered r known ks (w .1) k q
+
+-- ---- the run of two desks
+
+row : Event → ℕ → State
+row e v = record { event = e; values = pos v ∷ pos 0 ∷ pos 0 ∷ pos 0 ∷ [] }
+
+note : ℕ → ℕ → ℤ → Message
+note c n x = record { channel = c; number = n; stamp = x }
+
+pub desks : Run
+desks = record {
+  histories = (row Start 0 ∷ row (Send (note 0 7 (pos 5))) 1 ∷ row Internal 1 ∷ [])
+      ∷ (row Start 0 ∷ row (Receive (note 0 7 (pos 0))) 0 ∷ row Internal 1 ∷ [])
+      ∷ [];
+  channels = record { from = 0; to = 1 } ∷ [];
+}
+
+pub desks-known : Known desks
+unfolding desks row note into state paired
+desks-known = known-test desks tt
+
+-- case 1
+pub consistent-cuts : keep (consistent? desks) (cutsOf (desks .histories))
+    ≡ (1 ∷ 1 ∷ []) ∷ (2 ∷ 1 ∷ []) ∷ (2 ∷ 2 ∷ []) ∷ (2 ∷ 3 ∷ []) ∷ (3 ∷ 1 ∷ []) ∷ (3 ∷ 2 ∷ []) ∷ (3 ∷ 3 ∷ []) ∷ []
+unfolding desks row note into state paired
+consistent-cuts = refl
+
+-- cases 2 to 8, and below them the rows that tell apart what those leave open
+pub table : List Case
+table =
+    case [] (some (1 ∷ 1 ∷ []))
+    ∷ case (on 0 (countIs 1) ∷ []) (some (2 ∷ 1 ∷ []))
+    ∷ case (local 0 0 atLeast (pos 1) ∷ on 0 (countAtMost 0) ∷ []) (some (2 ∷ 2 ∷ []))
+    ∷ case (local 1 0 equal (pos 1) ∷ []) (some (2 ∷ 3 ∷ []))
+    ∷ case (local 1 0 equal (pos 1) ∷ on 0 (countAtLeast 1) ∷ []) none
+    ∷ case (on 0 (everyAtLeast (pos 6)) ∷ []) (some (1 ∷ 1 ∷ []))
+    ∷ case (on 0 (someAtMost (pos 4)) ∷ []) none
+    ∷ case (on 0 (stampIs (pos 5)) ∷ []) (some (2 ∷ 1 ∷ []))
+    ∷ case (local 0 0 atLeast (pos 1) ∷ on 0 (noStampIs (pos 5)) ∷ []) (some (2 ∷ 2 ∷ []))
+    ∷ case (local 0 0 atLeast (pos 1) ∷ on 0 (noStampIs (pos 6)) ∷ []) (some (2 ∷ 1 ∷ []))
+    ∷ case (local 0 0 atLeast (pos 1) ∷ on 0 (everyAtLeast (pos 6)) ∷ []) (some (2 ∷ 2 ∷ []))
+    ∷ case (local 0 0 atLeast (pos 1) ∷ on 0 (everyAtLeast (negsuc 0)) ∷ []) (some (2 ∷ 1 ∷ []))
+    ∷ case (on 0 (someAtMost (pos 5)) ∷ []) (some (2 ∷ 1 ∷ []))
+    ∷ case (local 1 0 other (pos 0) ∷ []) (some (2 ∷ 3 ∷ []))
+    ∷ case (local 0 0 atMost (pos 0) ∷ on 0 (countAtLeast 1) ∷ []) none
+    ∷ case (local 0 1 atLeast (pos 1) ∷ []) none
+    ∷ []
+
+pub marked : (k : Case) → List·Memᴰ k table → Answer desks (k .clauses) (k .answer)
+unfolding desks row note table case into state paired sends waiting between inTransit holds
+marked = all-answered desks desks-known table (
+  (tt, refl),
+  (
+    (tt, refl),
+    (
+      (tt, refl),
+      (
+        (tt, refl),
+        (
+          (tt, refl),
+          (
+            (tt, refl),
+            (
+              (tt, refl),
+              (
+                (tt, refl),
+                (
+                  (tt, refl),
+                  (
+                    (tt, refl),
+                    (
+                      (tt, refl),
+                      (
+                        (tt, refl),
+                        ((tt, refl), ((tt, refl), ((tt, refl), ((tt, refl), tt)))),
+                      ),
+                    ),
+                  ),
+                ),
+              ),
+            ),
+          ),
+        ),
+      ),
+    ),
+  ),
+)
+
+-- case 9: the set is empty where a receive is in and its send is not
+pub early : length (inTransit desks (1 ∷ 2 ∷ []) 0) ≡ 0
+unfolding desks row note into state paired sends waiting between inTransit
+early = refl
+
+-- case 10: the clock at process 1's second state has 1, and not 2, in place 0
+pub right-clock : ClockIs desks 1 2 0 1
+unfolding desks row note into state paired
+right-clock =
+    clock-receive desks desks-known 1 1 0 1 0 0 1 (λ e. absurd (omega arith)) (record { counted = omega arith; there = omega arith })
+    (record { same = tt })
+    (clear desks (λ i k d. absurd (before-first desks desks-known d)))
+    (clock-first desks desks-known 1 0 (λ e. absurd (omega arith)))
+    (clock-own desks 0 1)
+
+pub wrong-clock : ¬ ClockIs desks 1 2 0 2
+wrong-clock w = absurd (omega (arith, clock-unique w right-clock))
+
+-- ---- nothing past the cut counts: a run with other states past (2, 1)
+
+pub later : Run
+later = record {
+  histories = (row Start 0 ∷ row (Send (note 0 7 (pos 5))) 1 ∷ row (Send (note 0 8 (pos 2))) 9 ∷ row Internal 9 ∷ []) ∷ (row Start 0 ∷ []) ∷ [];
+  channels = record { from = 0; to = 1 } ∷ [];
+}
+
+pub same-up-to : SameUpTo (2 ∷ 1 ∷ []) desks later
+unfolding desks later row note
+same-up-to = record { channels = refl; processes = refl; states = states }
+  where
+    states : (i : ℕ) → take (at (2 ∷ 1 ∷ []) i) (history desks i) ≡ take (at (2 ∷ 1 ∷ []) i) (history later i)
+    states zero = refl
+    states (suc zero) = refl
+    states (suc (suc i)) = refl
+
+-- ---- two channels between the same two processes, the same number on both
+
+pub twin : Run
+twin = record {
+  histories = (row Start 0 ∷ row (Send (note 0 7 (pos 5))) 0 ∷ row (Send (note 1 7 (pos 6))) 0 ∷ []) ∷ (row Start 0 ∷ row (Receive (note 1 7 (pos 0))) 0 ∷ []) ∷ [];
+  channels = record { from = 0; to = 1 } ∷ record { from = 0; to = 1 } ∷ [];
+}
+
+pub twin-known : Known twin
+unfolding twin row note into state paired
+twin-known = known-test twin tt
+
+pub twin-table : List Case
+twin-table =
+    case (on 1 (countAtLeast 1) ∷ []) (some (3 ∷ 1 ∷ []))
+    ∷ case (on 0 (countIs 1) ∷ on 1 (countIs 0) ∷ local 1 3 equal (pos 0) ∷ []) (some (2 ∷ 1 ∷ []))
+    ∷ case (on 0 (stampIs (pos 6)) ∷ []) none
+    ∷ []
+
+pub twin-marked : (k : Case) → List·Memᴰ k twin-table → Answer twin (k .clauses) (k .answer)
+unfolding twin row note twin-table case into state paired sends waiting between inTransit holds
+twin-marked = all-answered twin twin-known twin-table ((tt, refl), ((tt, refl), ((tt, refl), tt)))
+
+-- the message of channel 0 is not received by the receive of channel 1
+pub twin-left : (length (inTransit twin (3 ∷ 2 ∷ []) 0) ≡ 1) × (length (inTransit twin (3 ∷ 2 ∷ []) 1) ≡ 0)
+unfolding twin row note into state paired sends waiting between inTransit
+twin-left = (refl, refl)
+
+-- ---- two processes that each receive before they send to the other
+
+pub ring : Run
+ring = record {
+  histories = (row Start 0 ∷ row (Receive (note 1 1 (pos 0))) 0 ∷ row (Send (note 0 1 (pos 0))) 0 ∷ [])
+      ∷ (row Start 0 ∷ row (Receive (note 0 1 (pos 0))) 0 ∷ row (Send (note 1 1 (pos 0))) 0 ∷ [])
+      ∷ [];
+  channels = record { from = 0; to = 1 } ∷ record { from = 1; to = 0 } ∷ [];
+}
+
+pub ring-circle : AfterCircle ring 0 2
+unfolding ring row note into state paired
+ring-circle =
+    let there : Before ring 0 2 1 2 = message (record { same = tt }) in
+    let back : Before ring 1 2 0 2 = message (record { same = tt }) in
+    record { process = 0; number = 2; circle = through there back; reach = inl (refl, refl) }
+
+-- ---- a run in which more is sent than received; why tests 8 and 9 are refused: neither process has to move
+
+-- three messages sent, and the second of them received
+pub busy : Run
+busy = record {
+  histories = (row Start 0 ∷ row (Send (note 0 1 (pos 0))) 0 ∷ row (Send (note 0 2 (pos 0))) 0 ∷ row (Send (note 0 3 (pos 0))) 0 ∷ [])
+      ∷ (row Start 0 ∷ row (Receive (note 0 2 (pos 0))) 0 ∷ [])
+      ∷ [];
+  channels = record { from = 0; to = 1 } ∷ [];
+}
+
+-- the first is sent and not received, the second received and not sent: one message, not one less one
+pub crossed : length (between busy 0 2 2) ≡ 1
+unfolding busy row note into state paired sends waiting between
+crossed = refl
+
+-- false at both, and true once either goes on by itself
+pub record NoMover (t : Test) (a b : ℕ) : Type 0 where
+  pub here : passes t (between busy 0 a b) ≡ false
+  pub sender : passes t (between busy 0 (a + 1) b) ≡ true
+  pub receiver : passes t (between busy 0 a (b + 1)) ≡ true
+
+pub odd-no-mover : NoMover countOdd 3 1
+unfolding busy row note into state paired sends waiting between
+odd-no-mover = record { here = refl; sender = refl; receiver = refl }
+
+pub other-no-mover : NoMover (countOther 2) 3 1
+unfolding busy row note into state paired sends waiting between
+other-no-mover = record { here = refl; sender = refl; receiver = refl }

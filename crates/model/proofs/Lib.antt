@@ -1,0 +1,14 @@
+pub mod Lists
+pub mod Pairing
+pub mod Order
+pub mod Circle
+pub mod Clock
+pub mod Transit
+pub mod Lattice
+pub mod Past
+pub mod Messages
+pub mod Conserved
+pub mod Search
+pub mod Decide
+pub mod Tested
+pub mod Desks
