@@ -1,0 +1,37 @@
+use Rattle.record.specs.Bytes.{signed}
+use borrow.Author.Needs.{needs}
+use borrow.Author.Tests.{lt-ltb, le-ltb}
+use native.Mathlib.Omega.{arith}
+use Prim.Native.Nat.{ℕ, _-_, _^_, suc}
+use mathlib.Core.Path.{_≡_, ap}
+use lib.IntN.{ℤ, pos, negsuc}
+use mir.Syntax.{w32}
+use mir.Val.{toZ}
+use Rattle.record.proofs.bytes.signed_of.Statement.{statement}
+use Rattle.record.proofs.bytes.signed_of.Tie as tie
+use Rattle.record.proofs.bytes.signed_of.Reads as reads
+use Rattle.record.proofs.bytes.signed_of.Lts as lts
+
+cast-result : tie.Need-cast-result
+cast-result c = search needs
+
+sub-result : tie.Need-sub-result
+sub-result c = search needs
+
+cast-result-2 : tie.Need-cast-result-2
+cast-result-2 c = search needs
+
+returns : tie.Need-returns
+unfolding signed
+returns c = simp (lt-ltb _ _ (c .if1 .taken))
+
+returns-2 : tie.Need-returns-2
+unfolding signed
+returns-2 c =
+    let n = c .before .args .n in
+    let e : 4294967295 - (4294967295 - n) ≡ n = omega arith in
+    rw e (simp (le-ltb _ _ (c .if1 .left)) (ap negsuc (omega arith)))
+
+pub signed-of-spec : {M : Type 1} → statement M
+signed-of-spec =
+    tie.close (tie.spec cast-result sub-result cast-result-2 returns returns-2)

@@ -1,0 +1,44 @@
+use borrow.Author.Needs.{needs}
+use native.Mathlib.Omega.{arith}
+use mathlib.Core.Path.{sym, _∙_}
+use borrow.Author.Tests.{eq-eqb, ne-eqb}
+use Rattle.record.specs.Record.{lengthOf, recordAt}
+use Rattle.record.proofs.Laws.{opened, opened-whole}
+use Rattle.record.proofs.reading.record_at.Statement.{statement}
+use Rattle.record.proofs.reading.record_at.Tie as tie
+
+add-u16-at : tie.Need-add-u16-at
+add-u16-at c = let o = opened _ _ (c .before .pre) in record { fits = omega (arith, o .frame .long, o .frame .whole) }
+
+u16-at-requires : tie.Need-u16-at-requires
+u16-at-requires c κs = let o = opened _ _ (c .before .pre) in omega (arith, o .frame .long, o .frame .whole)
+
+line-at-requires : tie.Need-line-at-requires
+unfolding lengthOf
+line-at-requires c κs = omega (arith, opened-whole _ _ 2 (c .before .before .before .pre) (sym (c .before .u16-at .ensures) ∙ c .match .keys2))
+
+fields-at-requires : tie.Need-fields-at-requires
+unfolding lengthOf
+fields-at-requires c κs = omega (arith, opened-whole _ _ 3 (c .before .before .before .pre) (sym (c .before .u16-at .ensures) ∙ c .match .keys3))
+
+returns : tie.Need-returns
+unfolding recordAt
+returns c = simp (← c .before .before .u16-at .ensures, c .before .match .keys1) (cc)
+
+returns-2 : tie.Need-returns-2
+unfolding recordAt
+returns-2 c = simp (← c .before .before .u16-at .ensures, c .before .match .keys2) (cc)
+
+returns-3 : tie.Need-returns-3
+unfolding recordAt
+returns-3 c = simp (← c .before .before .u16-at .ensures, c .before .match .keys3) (cc)
+
+returns-4 : tie.Need-returns-4
+unfolding recordAt
+returns-4 c = let n = c .match .rest in simp (← c .before .u16-at .ensures, ne-eqb _ _ (n .0 .0 .1), ne-eqb _ _ (n .0 .1), ne-eqb _ _ (n .1))
+
+pub record-at-spec : {M : Type 1} → statement M
+record-at-spec =
+    tie.close (tie.spec
+    add-u16-at u16-at-requires (λ c κs. search needs) line-at-requires fields-at-requires returns returns-2
+    returns-3 returns-4)

@@ -1,0 +1,197 @@
+-- The pass so far: what is left to read from here gives the whole, and the tables hold the states so far.
+use mathlib.Core.Path.{_≡_, refl, sym, ap, _∙_, subst}
+use mathlib.Core.Logic.{_⊎_, inl, inr, ⊎-elim}
+use mathlib.Core.Bool.{Bool, true, false, cond}
+use mathlib.Core.List.{List, []}
+use Prim.Native.Nat.{ℕ, zero, suc, _+_, _≤_, _<_}
+use native.Mathlib.Omega.{arith}
+use borrow.Author.Tests.{eq-eqb, ne-eqb, eqb-true, lt-ltb, le-ltb}
+use lib.Dec.{eqb, ltb}
+use lib.ListN.{length, replicate, getD}
+use Rattle.record.specs.Refusal.{refusal}
+use Rattle.record.specs.Record.{lengthAt, kindAt, lengthOf, headOf, openingNo, stepNo, fieldsAt, recordAt, stepAt}
+use Rattle.record.specs.declared.File.the-variants.{Run}
+use Rattle.record.specs.declared.Refusal.{Refusal}
+use Rattle.record.specs.declared.Record.{Record}
+use Rattle.record.specs.declared.Record.the-variants as R
+use Rattle.record.specs.declared.Step.{Step}
+use Rattle.record.specs.declared.Step.the-variants as S
+use Rattle.record.proofs.Laws.{opened, step-opened, by-place}
+use Rattle.run.specs.declared.Reading.{Reading}
+use Rattle.run.specs.States.{placesOf}
+use Rattle.run.specs.Judge.{judgeNo}
+use Rattle.run.specs.Read.{Verdict, countsOf, ended, more, isEnd, readFrom, readOf, reading, Indexed, Passed}
+use Rattle.run.specs.Read.Verdict.{refused, accepted}
+use Rattle.run.specs.Inner.{Roomy, Noted}
+use Rattle.run.proofs.Laws.{HeadOk, head-ok, StateOk, state-ok, state-there}
+use Rattle.run.proofs.Index.{index-more}
+
+-- ---- what a step that gives a record tells
+
+pub record Stepped (s : List ℕ) (at next : ℕ) (r : Record) : Type 0 where
+  pub opening : openingNo s at ≡ 0
+  pub item : r ≡ recordAt s at
+  pub on : next ≡ at + lengthAt s at
+  pub further : at + 4 ≤ next
+  pub within : next ≤ length s
+
+pub stepped : (s : List ℕ) (at next : ℕ) (r : Record) → stepAt s at ≡ S.Got r next → Stepped s at next r
+unfolding stepAt
+stepped s at next r e = go (eqb (stepNo s at) 0) refl e
+  where
+    go : (t : Bool) → eqb (stepNo s at) 0 ≡ t → cond t (S.Got (recordAt s at) (at + lengthAt s at)) (S.Refused (refusal Run (stepNo s at) at)) ≡ S.Got r next → Stepped s at next r
+    go true k e =
+        let o = step-opened s at (eqb-zero k) in
+        let f = opened s at o .frame in
+        let n : at + lengthAt s at ≡ next = cc in
+        record { opening = o; item = cc; on = sym n; further = omega (arith, f .long); within = omega (arith, f .whole) }
+      where
+        eqb-zero : eqb (stepNo s at) 0 ≡ true → stepNo s at ≡ 0
+        eqb-zero k = eqb-true _ 0 k
+    go false k e = absurd (let z : _≡_ {A = ℕ} 0 1 = cc in omega arith)
+
+-- ---- a turn of the pass
+
+module _ (f : ℕ) (s : List ℕ) (at : ℕ) (qs : List ℕ) where
+  pub read-refused : (x : Refusal) → stepAt s at ≡ S.Refused x → readFrom (suc f) s at qs ≡ refused x
+  unfolding readFrom
+  read-refused x e = simp e
+
+  module _ (next : ℕ) (r : Record) (got : stepAt s at ≡ S.Got r next) where
+    pub read-judged : (judgeNo s (countsOf s qs) at r ≡ 0 → ⊥) → readFrom (suc f) s at qs ≡ refused (refusal Run (judgeNo s (countsOf s qs) at r) at)
+    unfolding readFrom
+    read-judged n = simp (got, ne-eqb _ 0 n)
+
+    pub read-end : judgeNo s (countsOf s qs) at r ≡ 0 → isEnd r ≡ true → readFrom (suc f) s at qs ≡ ended s next qs
+    unfolding readFrom
+    read-end n e = simp (got, eq-eqb _ 0 n, e)
+
+    pub read-more : judgeNo s (countsOf s qs) at r ≡ 0 → isEnd r ≡ false → readFrom (suc f) s at qs ≡ readFrom f s next (more r at qs)
+    unfolding readFrom
+    read-more n e = simp (got, eq-eqb _ 0 n, e)
+
+-- ---- the pass so far
+
+pub record Here (s cs ps : List ℕ) (at : ℕ) : Type 0 where
+  pub states : List ℕ
+  pub fuel : ℕ
+  pub enough : length s < at + fuel
+  pub same : readFrom (suc (length s)) s 0 [] ≡ readFrom fuel s at states
+  pub index : Indexed s states cs ps
+  pub head : (at ≡ 0) ⊎ (headOf s .processes ≤ 8)
+
+pub here-start : (s cs ps : List ℕ) → cs ≡ replicate 8 0 → Here s cs ps 0
+unfolding countsOf placesOf Rattle.run.specs.States.tabulate
+here-start s cs ps e = record {
+  states = [];
+  fuel = suc (length s);
+  enough = omega arith;
+  same = refl;
+  index = record { counted = e; few = λ p l. omega arith; placed = λ p i l h. absurd (omega arith) };
+  head = inl refl;
+}
+
+-- the pass has fuel for one more record
+one-more : (s : List ℕ) (at f : ℕ) → length s < at + f → at ≤ length s → (g : ℕ) × (f ≡ suc g)
+one-more s at zero h l = absurd (omega arith)
+one-more s at (suc g) h l = (g, refl)
+
+module _ (s cs ps : List ℕ) (at : ℕ) (here : Here s cs ps at) (l : at ≤ length s) where
+  abbrev qs : List ℕ
+  qs = here .states
+
+  -- the counts of the tables are those that the definition counts
+  judged : (r : Record) → judgeNo s cs at r ≡ judgeNo s (countsOf s qs) at r
+  judged r = ap (λ l. judgeNo s l at r) (here .index .counted)
+
+  turn : (v : Verdict) → ((f : ℕ) → readFrom (suc f) s at qs ≡ v) → readFrom (suc (length s)) s 0 [] ≡ v
+  turn v w = let (g, e) = one-more s at (here .fuel) (here .enough) l in here .same ∙ rw e (w g)
+
+  pub here-refused : (x : Refusal) → stepAt s at ≡ S.Refused x → readFrom (suc (length s)) s 0 [] ≡ refused x
+  here-refused x e = turn (refused x) (λ f. read-refused f s at qs x e)
+
+  module _ (next : ℕ) (r : Record) (got : stepAt s at ≡ S.Got r next) where
+    pub here-judged : (judgeNo s cs at r ≡ 0 → ⊥) → readFrom (suc (length s)) s 0 [] ≡ refused (refusal Run (judgeNo s cs at r) at)
+    here-judged n =
+        turn (refused (refusal Run (judgeNo s cs at r) at))
+        (λ f. read-judged f s at qs next r got (λ z. n (judged r ∙ z)) ∙ ap (λ k. refused (refusal Run k at)) (sym (judged r)))
+
+    pub here-end : judgeNo s cs at r ≡ 0 → isEnd r ≡ true → readFrom (suc (length s)) s 0 [] ≡ ended s next qs
+    here-end n e = turn (ended s next qs) (λ f. read-end f s at qs next r got (sym (judged r) ∙ n) e)
+
+    -- a record that isn't the end, and what is noted of it
+    more-index : (r : Record) → r ≡ recordAt s at → openingNo s at ≡ 0 → judgeNo s cs at r ≡ 0 → length ps ≡ 4096 → (cs′ ps′ : List ℕ)
+        → (headOf s .processes ≤ 8) → Noted r at cs ps cs′ ps′ → Indexed s (more r at qs) cs′ ps′
+    more-index (R.Head h) e o n long cs′ ps′ few w = rw (w .0, w .1) (here .index)
+    more-index (R.Channel m) e o n long cs′ ps′ few w = rw (w .0, w .1) (here .index)
+    more-index R.End e o n long cs′ ps′ few w = rw (w .0, w .1) (here .index)
+    more-index (R.State f) e o n long cs′ ps′ few w =
+        let t = state-there s at f o (sym e) in
+        let k = state-ok s cs f n in
+        rw (w .0, w .1) (index-more s qs cs ps at (f .process) (ap (λ x. x .process) (sym (t .fields))) (here .index) (omega (arith, k .names .process)) long (k .room))
+
+    -- behind the first record the number of processes is known to be right
+    few-processes : (r : Record) → r ≡ recordAt s at → openingNo s at ≡ 0 → judgeNo s cs at r ≡ 0 → headOf s .processes ≤ 8
+    few-processes r e o n = ⊎-elim (λ z. first z) (λ h. h) (here .head)
+      where
+        first : at ≡ 0 → headOf s .processes ≤ 8
+        first z = by-place s at (λ r. r ≡ recordAt s at → judgeNo s cs at r ≡ 0 → headOf s .processes ≤ 8) o
+            (λ a k e n. head-ok (headOf s) n .few)
+            (λ h a k e n. absurd (a z))
+            (λ h a k e n. absurd (a z))
+            (λ h a k e n. absurd (a z))
+            refl (rw (← e) n)
+
+    pub here-more : judgeNo s cs at r ≡ 0 → isEnd r ≡ false → length ps ≡ 4096 → (cs′ ps′ : List ℕ) → Noted r at cs ps cs′ ps′ → Here s cs′ ps′ next
+    here-more n e long cs′ ps′ w =
+        let d = stepped s at next r got in
+        let (g, k) = one-more s at (here .fuel) (here .enough) l in
+        let few = few-processes r (d .item) (d .opening) n in record {
+          states = more r at qs;
+          fuel = g;
+          enough = omega (arith, d .further, here .enough, k);
+          same = here .same ∙ ap (λ f. readFrom f s at qs) k ∙ read-more g s at qs next r got (sym (judged r) ∙ n) e;
+          index = more-index r (d .item) (d .opening) n long cs′ ps′ few w;
+          head = inr few;
+        }
+
+    -- what keeping a state requires
+    pub here-roomy : judgeNo s cs at r ≡ 0 → Roomy r cs
+    here-roomy n = let d = stepped s at next r got in go r (d .item) (few-processes r (d .item) (d .opening) n) n
+      where
+        go : (r : Record) → r ≡ recordAt s at → headOf s .processes ≤ 8 → judgeNo s cs at r ≡ 0 → Roomy r cs
+        go (R.Head h) e few n = tt
+        go (R.Channel m) e few n = tt
+        go R.End e few n = tt
+        go (R.State f) e few n = let k = state-ok s cs f n in (omega (arith, k .names .process), k .room)
+
+    -- what judging requires of the head
+    pub here-opened : (openingNo s at ≡ 0) × (r ≡ recordAt s at)
+    here-opened = let d = stepped s at next r got in (d .opening, d .item)
+
+-- ---- the pass's answer at each way out
+
+pub passed-refused : (s : List ℕ) {v : Verdict} (x : Refusal) (cs ps : List ℕ) {r : Reading} → v ≡ refused x → r ≡ reading s (refused x) → Passed s v r cs ps
+passed-refused s x cs ps e a = record { answer = a ∙ ap (reading s) (sym e); index = λ qs z. absurd (let z : _≡_ {A = ℕ} 0 1 = cc in omega arith) }
+
+pub passed-end : (s : List ℕ) {v : Verdict} (next : ℕ) (qs cs ps : List ℕ) {r : Reading} → Indexed s qs cs ps
+    → v ≡ ended s next qs → r ≡ reading s (ended s next []) → Passed s v r cs ps
+unfolding ended
+passed-end s {v} next qs cs ps {r} w e a = go (ltb next (length s)) e a
+  where
+    x : Refusal
+    x = record { file = Run; number = 4; place = next; after = true }
+
+    go : (t : Bool) → v ≡ cond t (refused x) (accepted qs) → r ≡ reading s (cond t (refused x) (accepted [])) → Passed s v r cs ps
+    go true e a = passed-refused s x cs ps e a
+    go false e a = record { answer = a ∙ ap (reading s) (sym e); index = λ qs′ z. let same : qs ≡ qs′ = cc in rw (← same) w }
+
+-- ---- the length of the file
+
+pub read-long : (s : List ℕ) → 65535 < length s → readOf s ≡ refused (refusal Run 1 0)
+unfolding readOf
+read-long s h = simp (lt-ltb _ _ h)
+
+pub read-short : (s : List ℕ) → length s ≤ 65535 → readOf s ≡ readFrom (suc (length s)) s 0 []
+unfolding readOf
+read-short s h = simp (le-ltb _ _ h)

@@ -1,0 +1,4 @@
+pub mod Laws
+pub mod Tabulate
+pub mod Index
+pub mod Here

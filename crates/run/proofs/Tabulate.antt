@@ -1,0 +1,17 @@
+-- Laws of tabulate: f 0 to f (n - 1).
+use mathlib.Core.Path.{_≡_, refl, ap}
+use Prim.Native.Nat.{ℕ, zero, suc, _<_}
+use native.Mathlib.Omega.{arith}
+use lib.ListN.{length, getD}
+use Rattle.run.specs.States.{tabulate}
+
+pub tabulate-length : {A : Type 0} (n : ℕ) (f : ℕ → A) → length (tabulate n f) ≡ n
+unfolding tabulate
+tabulate-length zero f = refl
+tabulate-length (suc n) f = ap suc (tabulate-length n (λ k. f (suc k)))
+
+pub tabulate-at : {A : Type 0} (n : ℕ) (f : ℕ → A) (i : ℕ) (d : A) → i < n → getD (tabulate n f) i d ≡ f i
+unfolding tabulate
+tabulate-at zero f i d h = absurd (omega arith)
+tabulate-at (suc n) f zero d h = refl
+tabulate-at (suc n) f (suc i) d h = tabulate-at n (λ k. f (suc k)) i d (omega arith)

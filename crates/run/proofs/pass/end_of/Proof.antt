@@ -1,0 +1,18 @@
+use borrow.Author.Needs.{needs}
+use borrow.Author.Tests.{lt-ltb, le-ltb}
+use Rattle.run.specs.Read.{ended}
+use Rattle.run.proofs.pass.end_of.Statement.{statement}
+use Rattle.run.proofs.pass.end_of.Tie as tie
+
+returns : tie.Need-returns
+unfolding ended
+returns c = simp (lt-ltb _ _ (c .if1 .taken))
+
+returns-2 : tie.Need-returns-2
+unfolding ended
+returns-2 c = simp (le-ltb _ _ (c .before .if1 .left)) (cc)
+
+pub end-of-spec : {M : Type 1} → statement M
+end-of-spec =
+    tie.close (tie.spec
+    returns (λ c κs. search needs) returns-2)

@@ -1,0 +1,14 @@
+use borrow.Author.Needs.{needs}
+use Rattle.run.specs.States.{channelAt}
+use Rattle.run.proofs.states.channel_at.Statement.{statement}
+use Rattle.run.proofs.states.channel_at.Tie as tie
+
+returns : tie.Need-returns
+unfolding channelAt
+returns c = cc
+
+pub channel-at-spec : {M : Type 1} → statement M
+channel-at-spec =
+    tie.close (tie.spec
+    (λ c. search needs) (λ c. search needs) (λ c. search needs) (λ c κs. search needs) (λ c. search needs)
+    (λ c κs. search needs) returns)

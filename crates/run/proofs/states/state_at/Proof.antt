@@ -1,0 +1,11 @@
+use borrow.Author.Needs.{needs}
+use Rattle.run.proofs.states.state_at.Statement.{statement}
+use Rattle.run.proofs.states.state_at.Tie as tie
+
+returns : tie.Need-returns
+returns c = cc
+
+pub state-at-spec : {M : Type 1} → statement M
+state-at-spec =
+    tie.close (tie.spec
+    (λ c κs. search needs) (λ c κs. search needs) (λ c. search needs) returns)

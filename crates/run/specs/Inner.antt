@@ -1,0 +1,32 @@
+-- Words of the contracts of the pass's inner functions; the promises don't use them.
+use mathlib.Core.Path.{_≡_}
+use mathlib.Core.List.{List}
+use Prim.Native.Nat.{ℕ, _+_, _*_, _<_}
+use lib.ListN.{getD, set}
+use Rattle.record.specs.Refusal.{refusal}
+use Rattle.record.specs.declared.File.the-variants.{Run}
+use Rattle.record.specs.declared.Record.{Record}
+use Rattle.record.specs.declared.Record.the-variants as R
+use Rattle.record.specs.declared.Step.{Step}
+use Rattle.record.specs.declared.Step.the-variants as S
+use Rattle.run.specs.declared.Reading.{Reading}
+use Rattle.run.specs.declared.Reading.the-variants.{Refused}
+
+abbrev pub handUp : Step → Reading
+handUp (S.Refused x) = Refused x
+handUp (S.Got r next) = Refused (refusal Run 0 0)
+
+-- a state's process has a row, and the row has room
+abbrev pub Roomy : Record → List ℕ → Type 0
+Roomy (R.Head h) counts = Unit {0}
+Roomy (R.Channel l) counts = Unit {0}
+Roomy (R.State f) counts = (f .process < 8) × (getD counts (f .process) 0 < 512)
+Roomy R.End counts = Unit {0}
+
+-- a state is kept in its process's row
+abbrev pub Noted : Record → ℕ → List ℕ → List ℕ → List ℕ → List ℕ → Type 0
+Noted (R.Head h) at cs ps cs′ ps′ = (cs′ ≡ cs) × (ps′ ≡ ps)
+Noted (R.Channel l) at cs ps cs′ ps′ = (cs′ ≡ cs) × (ps′ ≡ ps)
+Noted (R.State f) at cs ps cs′ ps′ =
+    (cs′ ≡ set cs (f .process) (getD cs (f .process) 0 + 1)) × (ps′ ≡ set ps (512 * f .process + getD cs (f .process) 0) at)
+Noted R.End at cs ps cs′ ps′ = (cs′ ≡ cs) × (ps′ ≡ ps)

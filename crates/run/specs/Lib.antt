@@ -1,0 +1,4 @@
+pub mod States
+pub mod Judge
+pub mod Read
+pub mod Inner
