@@ -1,4 +1,5 @@
 pub mod States
 pub mod Judge
 pub mod Read
+pub mod Tables
 pub mod Inner

@@ -1,0 +1,51 @@
+-- The run that a file's bytes say, and what the tables hold of an accepted run.
+use mathlib.Core.Path.{_≡_}
+use mathlib.Core.Logic.{_⊎_}
+use mathlib.Core.List.{List, []}
+use Prim.Native.Nat.{ℕ, _+_, _-_, _*_}
+use lib.ListN.{length, getD}
+use Rattle.model.specs.declared.Message.{Message}
+use Rattle.model.specs.declared.Event.the-variants.{Send}
+use Rattle.model.specs.Run.{Run, into, channel, Paired, Known}
+use Rattle.model.specs.Cut.{Clocks}
+use Rattle.run.specs.States.{runOf}
+use Rattle.run.specs.Read.{Verdict, readOf, Indexed}
+use Rattle.run.specs.Read.Verdict.{refused, accepted}
+
+-- the places of the state records in file order; none of a file that the pass refuses
+abbrev pub placesIn : Verdict → List ℕ
+placesIn (refused x) = []
+placesIn (accepted qs) = qs
+
+unfoldable pub statesOf : List ℕ → List ℕ
+statesOf s = placesIn (readOf s)
+
+-- the run that the bytes say
+unfoldable pub runIn : List ℕ → Run
+runIn s = runOf s (statesOf s)
+
+-- state k of process i has entry 512 i + k - 1 of a table
+abbrev pub slot : ℕ → ℕ → ℕ
+slot i k = 512 * i + (k - 1)
+
+-- the other end of a send or of a receive; 0 of a send that isn't received
+pub record Partnered (r : Run) (partners : List ℕ) : Type 0 where
+  pub sent : (i k j l : ℕ) → Paired r i k j l → getD partners (slot i k) 0 ≡ l
+  pub received : (i k j l : ℕ) → Paired r i k j l → getD partners (slot j l) 0 ≡ k
+  pub backed : (i k : ℕ) (m : Message) → into r i k ≡ Send m
+      → (getD partners (slot i k) 0 ≡ 0) ⊎ Paired r i k (channel r (m .channel) .to) (getD partners (slot i k) 0)
+
+-- place i of the clock at state l of process j is entry 8 slot + i
+abbrev pub clockIn : List ℕ → ℕ → ℕ → ℕ → ℕ
+clockIn clocks j l i = getD clocks (8 * slot j l + i) 0
+
+-- what the tables hold of the accepted run s: counts, places, partners and clocks
+pub record Tables (s cs ps ns ks : List ℕ) : Type 0 where
+  pub read : readOf s ≡ accepted (statesOf s)
+  pub known : Known (runIn s)
+  pub index : Indexed s (statesOf s) cs ps
+  pub partners : Partnered (runIn s) ns
+  pub clocks : Clocks (runIn s) (clockIn ks)
+  pub places-long : length ps ≡ 4096
+  pub partners-long : length ns ≡ 4096
+  pub clocks-long : length ks ≡ 32768
