@@ -9,7 +9,7 @@ use lib.ListN.{length, List·getD-eq-default}
 use Rattle.model.specs.declared.Message.{Message}
 use Rattle.model.specs.declared.Event.{Event}
 use Rattle.model.specs.declared.Event.the-variants.{Start, Internal, Send, Receive}
-use Rattle.model.specs.Run.{Run, State, nth, noState, history, state, into, channel, count, processes, IsState, sending, receiving, sameMessage, paired, Paired, Known}
+use Rattle.model.specs.Run.{Run, State, nth, noState, history, state, into, channel, count, processes, IsState, sending, receiving, sameMessage, paired, Paired, Sides, Known}
 use Rattle.model.proofs.Lists.{le-or-lt, eq→eqb, and-T, T-and}
 
 -- ---- where there is no start, there is a state
@@ -77,6 +77,14 @@ module _ {r : Run} {i k j l : ℕ} where
 
 -- ---- the laws
 
+-- the two ends of a pair are the ends of its channel
+module _ (r : Run) (sides : Sides r) where
+  pub from-side : {i k j l : ℕ} (p : Pair r i k j l) → channel r (p .received .channel) .from ≡ i
+  from-side {i} {k} p = ap (λ c. channel r c .from) (sym (p .on)) ∙ sides .sender i k (p .sent) (p .send) .1
+
+  pub to-side : {i k j l : ℕ} (p : Pair r i k j l) → channel r (p .received .channel) .to ≡ j
+  to-side {j = j} {l} p = sides .receiver j l (p .received) (p .receive) .1
+
 module _ (r : Run) (known : Known r) where
   -- the first state of a process is a start
   pub first-start : (i : ℕ) → into r i 1 ≡ Start
@@ -86,14 +94,13 @@ module _ (r : Run) (known : Known r) where
       (λ h. ap (λ s. s .event) (List·getD-eq-default (history r i) noState {n = 0} (omega arith)))
       (le-or-lt 1 (count r i))
 
-  -- the two ends of a pair are the ends of its channel
   pub from-end : {i k j l : ℕ} (p : Pair r i k j l) → channel r (p .received .channel) .from ≡ i
-  from-end {i} {k} p = ap (λ c. channel r c .from) (sym (p .on)) ∙ known .sides .sender i k (p .sent) (p .send) .1
+  from-end p = from-side r (known .sides) p
 
   pub to-end : {i k j l : ℕ} (p : Pair r i k j l) → channel r (p .received .channel) .to ≡ j
-  to-end {j = j} {l} p = known .sides .receiver j l (p .received) (p .receive) .1
+  to-end p = to-side r (known .sides) p
 
-  -- and differ
+  -- they differ
   pub apart : {i k j l : ℕ} → Paired r i k j l → i ≢ j
   apart {i} {k} {j} {l} q e =
       let p = view q in

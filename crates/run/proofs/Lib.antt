@@ -5,3 +5,7 @@ pub mod Here
 pub mod Places
 pub mod Accepted
 pub mod Sides
+pub mod Listed
+pub mod Firsts
+pub mod Pairs
+pub mod Partners

@@ -46,3 +46,16 @@ numbered s (q ∷ qs) (suc i) p h e = go (eqb (fieldsAt s q .process) p) (number
         × (getD (put t q (placesOf s qs p)) (length (put t q (placesOf s (take i qs) p))) 0 ≡ getD qs i 0)
     go true w = (omega (arith, w .0), w .1)
     go false w = w
+
+-- more records have at least as many states of a process
+pub places-grow : (s qs : List ℕ) (i j p : ℕ) → i ≤ j → length (placesOf s (take i qs) p) ≤ length (placesOf s (take j qs) p)
+unfolding placesOf
+places-grow s qs zero j p h = omega arith
+places-grow s qs (suc i) zero p h = absurd (omega arith)
+places-grow s [] (suc i) (suc j) p h = omega arith
+places-grow s (q ∷ qs) (suc i) (suc j) p h = go (eqb (fieldsAt s q .process) p) (places-grow s qs i j p (omega arith))
+  where
+    go : (t : Bool) → length (placesOf s (take i qs) p) ≤ length (placesOf s (take j qs) p)
+        → length (put t q (placesOf s (take i qs) p)) ≤ length (put t q (placesOf s (take j qs) p))
+    go true h = omega arith
+    go false h = h

@@ -2,13 +2,13 @@
 use mathlib.Core.Path.{_≡_}
 use mathlib.Core.Logic.{_⊎_}
 use mathlib.Core.List.{List, []}
-use Prim.Native.Nat.{ℕ, _+_, _-_, _*_}
+use Prim.Native.Nat.{ℕ, _+_, _-_, _*_, _<_}
 use lib.ListN.{length, getD}
 use Rattle.model.specs.declared.Message.{Message}
 use Rattle.model.specs.declared.Event.the-variants.{Send}
 use Rattle.model.specs.Run.{Run, into, channel, Paired, Known}
 use Rattle.model.specs.Cut.{Clocks}
-use Rattle.run.specs.States.{runOf}
+use Rattle.run.specs.States.{placesOf, runOf}
 use Rattle.run.specs.Read.{Verdict, readOf, Indexed}
 use Rattle.run.specs.Read.Verdict.{refused, accepted}
 
@@ -38,6 +38,19 @@ pub record Partnered (r : Run) (partners : List ℕ) : Type 0 where
 -- place i of the clock at state l of process j is entry 8 slot + i
 abbrev pub clockIn : List ℕ → ℕ → ℕ → ℕ → ℕ
 clockIn clocks j l i = getD clocks (8 * slot j l + i) 0
+
+-- the places that the pass leaves of a run that it accepts
+pub record Placed (s ps : List ℕ) : Type 0 where
+  pub read : readOf s ≡ accepted (statesOf s)
+  pub few : (p : ℕ) → p < 8 → length (placesOf s (statesOf s) p) < 513
+  pub placed : (p i : ℕ) → p < 8 → i < length (placesOf s (statesOf s) p) → getD ps (512 * p + i) 0 ≡ getD (placesOf s (statesOf s) p) i 0
+  pub long : length ps ≡ 4096
+
+-- all that it leaves
+pub record Listed (s cs ps : List ℕ) : Type 0 where
+  pub read : readOf s ≡ accepted (statesOf s)
+  pub index : Indexed s (statesOf s) cs ps
+  pub long : length ps ≡ 4096
 
 -- what the tables hold of the accepted run s: counts, places, partners and clocks
 pub record Tables (s cs ps ns ks : List ℕ) : Type 0 where

@@ -1,5 +1,7 @@
 // The judging of a run. `judge` has the tests of one record beside what is known so far, `pass` goes over all records, `states` says what stands in a state record.
+pub mod faults;
 pub mod judge;
+pub mod pairing;
 pub mod pass;
 pub mod states;
 
@@ -12,6 +14,12 @@ pub struct State {
     pub process: u16,
     pub event: Event,
     pub values: usize,
+}
+
+// The place of the first record in file order that has a fault, or that none has.
+pub enum First {
+    Nothing,
+    At(usize),
 }
 
 // What the pass gives: the head of a run that it accepts, or the first refusal.

@@ -1,0 +1,125 @@
+-- What the pass leaves of an accepted run, in the words of the model: each state by its process and number.
+use mathlib.Core.Path.{_≡_, refl, sym, ap, _∙_, subst}
+use mathlib.Core.Logic.{⊎-elim}
+use mathlib.Core.List.{List}
+use Prim.Native.Nat.{ℕ, zero, suc, _+_, _-_, _*_, _≤_, _<_}
+use native.Mathlib.Nat.{mul-le-mul-left, mul-suc}
+use native.Mathlib.Omega.{arith}
+use lib.ListN.{length, getD, take}
+use Rattle.model.specs.Run.{processes, count, state, into, channel, IsState, Sides}
+use Rattle.model.proofs.Lists.{le-or-lt}
+use Rattle.record.specs.Record.{headOf, fieldsAt}
+use Rattle.run.specs.States.{eventOf, stateAt, channelAt, placesOf}
+use Rattle.run.specs.Read.{readOf}
+use Rattle.run.specs.Read.Verdict.{accepted}
+use Rattle.run.specs.Tables.{statesOf, runIn, slot, Placed, Listed}
+use Rattle.run.specs.Judged.{placeOf}
+use Rattle.run.proofs.Laws.{StateOk}
+use Rattle.run.proofs.Index.{counts-at, counts-length}
+use Rattle.run.proofs.Places.{StandsAt, stands, places-grow}
+use Rattle.run.proofs.Accepted.{size, base, Accepted, run-accepted}
+use Rattle.run.proofs.Sides.{run-processes, run-channels, run-channel, run-count, run-process, run-state, Judged, state-judged, run-sides}
+
+module _ (s : List ℕ) (read : readOf s ≡ accepted (statesOf s)) where
+  abbrev qs : List ℕ
+  qs = statesOf s
+
+  pub ok : Accepted s (statesOf s)
+  ok = run-accepted s (statesOf s) read .1
+
+  pub short : length s ≤ 65535
+  short = run-accepted s (statesOf s) read .0
+
+  pub sides : Sides (runIn s)
+  unfolding runIn
+  sides = run-sides s qs ok
+
+  pub processes-are : processes (runIn s) ≡ headOf s .processes
+  unfolding runIn
+  processes-are = run-processes s qs
+
+  pub channels-are : length (runIn s .channels) ≡ headOf s .channels
+  unfolding runIn
+  channels-are = run-channels s qs
+
+  pub channel-is : (c : ℕ) → c < headOf s .channels → channel (runIn s) c ≡ channelAt s c
+  unfolding runIn
+  channel-is c h = run-channel s qs c h
+
+  pub process-of : {p k : ℕ} → IsState (runIn s) p k → p < headOf s .processes
+  unfolding runIn
+  process-of w = run-process s qs w
+
+  pub count-is : (p : ℕ) → p < headOf s .processes → count (runIn s) p ≡ length (placesOf s qs p)
+  unfolding runIn
+  count-is p h = run-count s qs p h
+
+  place-at : (p k : ℕ) → getD (placesOf s qs p) k 0 ≡ placeOf s p (suc k)
+  place-at p k = ap (λ n. getD (placesOf s qs p) n 0) (omega arith)
+
+  -- a state's record is whole, and says the state
+  pub place-whole : (p k : ℕ) → IsState (runIn s) p k → placeOf s p k + size s ≤ length s
+  unfolding runIn
+  place-whole p zero w = absurd (omega (arith, w .counted))
+  place-whole p (suc k) w =
+      let j = state-judged s qs ok p k w in
+      let st = j .stand in
+      subst (λ q. q + size s ≤ length s) (st .place ∙ place-at p k) (ok .states (j .record-number) (st .there) .whole)
+
+  pub event-is : (p k : ℕ) → IsState (runIn s) p k → into (runIn s) p k ≡ eventOf (fieldsAt s (placeOf s p k))
+  unfolding runIn
+  event-is p zero w = absurd (omega (arith, w .counted))
+  event-is p (suc k) w = state-judged s qs ok p k w .event ∙ ap (λ q. eventOf (fieldsAt s q)) (place-at p k)
+
+  pub process-is : (p k : ℕ) → IsState (runIn s) p k → fieldsAt s (placeOf s p k) .process ≡ p
+  unfolding runIn
+  process-is p zero w = absurd (omega (arith, w .counted))
+  process-is p (suc k) w = ap (λ q. fieldsAt s q .process) (sym (place-at p k)) ∙ state-judged s qs ok p k w .process
+
+  -- within a process, file order is the order of its states
+  rise : (p j j′ : ℕ) → j < j′ → j′ < length (placesOf s qs p) → getD (placesOf s qs p) j 0 < getD (placesOf s qs p) j′ 0
+  rise p j j′ h g =
+      let (i, a) = stands s qs p j (omega arith) in
+      let (i′, a′) = stands s qs p j′ g in
+      let earlier : i < i′ = ⊎-elim (λ x. x) (λ x. absurd (omega (arith, a .number, a′ .number, places-grow s qs i′ i p (omega arith)))) (le-or-lt (suc i) i′) in
+      let here = ok .states i (a .there) .place in
+      let there = ok .states i′ (a′ .there) .place in
+      omega (arith, a .place, a′ .place, here, there, mul-le-mul-left (size s) earlier, mul-suc (size s) i)
+
+  pub place-rises : (p k k′ : ℕ) → IsState (runIn s) p k → IsState (runIn s) p k′ → k < k′ → placeOf s p k < placeOf s p k′
+  place-rises p zero k′ w w′ h = absurd (omega (arith, w .counted))
+  place-rises p (suc k) zero w w′ h = absurd (omega arith)
+  place-rises p (suc k) (suc k′) w w′ h =
+      let l : k′ < length (placesOf s qs p) = omega (arith, w′ .there, count-is p (process-of w)) in
+      omega (arith, place-at p k, place-at p k′, rise p k k′ (omega arith) l)
+
+-- ---- by the tables
+
+pub listed-places : {s cs ps : List ℕ} → Listed s cs ps → Placed s ps
+listed-places w = record { read = w .read; few = w .index .few; placed = w .index .placed; long = w .long }
+
+module _ (s ps : List ℕ) (w : Placed s ps) where
+  pub placed-eight : (p : ℕ) → p < headOf s .processes → p < 8
+  placed-eight p h = omega (arith, ok s (w .read) .head .few)
+
+  pub placed-few : (p : ℕ) → p < headOf s .processes → count (runIn s) p ≤ 512
+  placed-few p h = omega (arith, w .few p (placed-eight p h), count-is s (w .read) p h)
+
+  pub placed-at : (p k : ℕ) → IsState (runIn s) p k → getD ps (slot p k) 0 ≡ placeOf s p k
+  placed-at p k t =
+      let h = process-of s (w .read) t in
+      w .placed p (k - 1) (placed-eight p h) (omega (arith, t .there, t .counted, count-is s (w .read) p h))
+
+  -- the record at a state's entry is whole, and says the event
+  pub placed-whole : (p k : ℕ) → IsState (runIn s) p k → getD ps (slot p k) 0 + size s ≤ length s
+  placed-whole p k t = rw (placed-at p k t) (place-whole s (w .read) p k t)
+
+  pub placed-event : (p k : ℕ) → IsState (runIn s) p k → eventOf (fieldsAt s (getD ps (slot p k) 0)) ≡ into (runIn s) p k
+  placed-event p k t = ap (λ q. eventOf (fieldsAt s q)) (placed-at p k t) ∙ sym (event-is s (w .read) p k t)
+
+pub listed-count : (s cs ps : List ℕ) → Listed s cs ps → (p : ℕ) → p < headOf s .processes → getD cs p 0 ≡ count (runIn s) p
+listed-count s cs ps w p h =
+    ap (λ l. getD l p 0) (w .index .counted) ∙ counts-at s (statesOf s) p (placed-eight s ps (listed-places w) p h) ∙ sym (count-is s (w .read) p h)
+
+pub listed-eight : {s cs ps : List ℕ} → Listed s cs ps → length cs ≡ 8
+listed-eight {s} w = ap length (w .index .counted) ∙ counts-length s (statesOf s)

@@ -1,0 +1,78 @@
+-- What judging a whole run gives: the pass's refusal, or 11, 12, 13 at the first record in file order, or that the run is accepted.
+use mathlib.Core.Path.{_≡_}
+use mathlib.Core.Logic.{_≢_}
+use Prim.Native.Nat.{ℕ, _+_, _-_, _*_, _≤_, _<_}
+use mathlib.Core.List.{List}
+use mathlib.Core.Bool.{cond}
+use lib.Dec.{T, ltb}
+use lib.ListN.{getD}
+use Rattle.model.specs.declared.Message.{Message}
+use Rattle.model.specs.declared.Event.the-variants.{Receive}
+use Rattle.model.specs.Run.{processes, into, IsState, sending, receiving, sameMessage, Paired}
+use Rattle.model.specs.Cut.{AfterCircle, ClockIs}
+use Rattle.record.specs.Bytes.{u16At}
+use Rattle.record.specs.Record.{headOf}
+use Rattle.record.specs.Refusal.{number, refusal}
+use Rattle.record.specs.Refusal.Reason.{pairing, circle, clock}
+use Rattle.record.specs.declared.File.the-variants.{Run}
+use Rattle.record.specs.declared.Refusal.{Refusal}
+use Rattle.run.specs.declared.First.{First}
+use Rattle.run.specs.declared.First.the-variants.{Nothing, At}
+use Rattle.run.specs.declared.Reading.{Reading}
+use Rattle.run.specs.declared.Reading.the-variants.{Accepted, Refused}
+use Rattle.run.specs.States.{placesOf}
+use Rattle.run.specs.Read.{Verdict, readOf}
+use Rattle.run.specs.Read.Verdict.{refused, accepted}
+use Rattle.run.specs.Tables.{statesOf, runIn}
+
+module _ (s : List ℕ) where
+  -- the byte place of state k of process p
+  abbrev pub placeOf : ℕ → ℕ → ℕ
+  placeOf p k = getD (placesOf s (statesOf s) p) (k - 1) 0
+
+  -- 11: a second send or a second receive of a message, in file order, or a receive with no send
+  pub data Unpaired (p k : ℕ) : Type 0 where
+    secondSend : (i j : ℕ) → IsState (runIn s) i j → placeOf i j < placeOf p k → T (sameMessage (sending (into (runIn s) i j)) (sending (into (runIn s) p k))) → Unpaired p k
+    secondReceive : (i j : ℕ) → IsState (runIn s) i j → placeOf i j < placeOf p k → T (sameMessage (receiving (into (runIn s) i j)) (receiving (into (runIn s) p k))) → Unpaired p k
+    noSend : (m : Message) → into (runIn s) p k ≡ Receive m → ((i j : ℕ) → ¬ Paired (runIn s) i j p k) → Unpaired p k
+
+  -- 12: on a circle or after one
+  abbrev pub Circular : ℕ → ℕ → Type 0
+  Circular p k = AfterCircle (runIn s) p k
+
+  -- 13: a clock number other than the rule's
+  pub record WrongClock (p k : ℕ) : Type 0 where
+    pub place : ℕ
+    pub there : place < processes (runIn s)
+    pub wrong : ¬ ClockIs (runIn s) p k place (u16At s (placeOf p k + 34 + 2 * place))
+
+  -- the first record in file order at which a state has the fault
+  pub record FirstAt (Fault : ℕ → ℕ → Type 0) (at : ℕ) : Type 0 where
+    pub process : ℕ
+    pub state : ℕ
+    pub there : IsState (runIn s) process state
+    pub fault : Fault process state
+    pub place : at ≡ placeOf process state
+    pub first : (p k : ℕ) → IsState (runIn s) p k → Fault p k → at ≤ placeOf p k
+
+  -- no state has the fault
+  abbrev pub Nowhere : (ℕ → ℕ → Type 0) → Type 0
+  Nowhere Fault = (p k : ℕ) → IsState (runIn s) p k → ¬ Fault p k
+
+  -- in this order: refused by the pass, 11, 12, 13, accepted
+  pub data Judged : Reading → Type 0 where
+    byPass : (x : Refusal) → readOf s ≡ refused x → Judged (Refused x)
+    byPairing : (at : ℕ) → readOf s ≡ accepted (statesOf s) → FirstAt Unpaired at → Judged (Refused (refusal Run (number pairing) at))
+    byCircle : (at : ℕ) → readOf s ≡ accepted (statesOf s) → Nowhere Unpaired → FirstAt Circular at → Judged (Refused (refusal Run (number circle) at))
+    byClock : (at : ℕ) → readOf s ≡ accepted (statesOf s) → Nowhere Unpaired → Nowhere Circular → FirstAt WrongClock at → Judged (Refused (refusal Run (number clock) at))
+    wholly : readOf s ≡ accepted (statesOf s) → Nowhere Unpaired → Nowhere Circular → Nowhere WrongClock → Judged (Accepted (headOf s))
+
+-- the lowest of the places of a state of each process, of those that have one (0: none)
+pub data Earliest (s : List ℕ) (n : ℕ) (bad : List ℕ) : First → Type 0 where
+  nowhere : ((p : ℕ) → p < n → getD bad p 0 ≡ 0) → Earliest s n bad Nothing
+  at : (x p : ℕ) → p < n → getD bad p 0 ≢ 0 → x ≡ placeOf s p (getD bad p 0)
+      → ((q : ℕ) → q < n → getD bad q 0 ≢ 0 → x ≤ placeOf s q (getD bad q 0)) → Earliest s n bad (At x)
+
+abbrev pub lowerOf : First → ℕ → First
+lowerOf Nothing x = At x
+lowerOf (At y) x = cond (ltb x y) (At x) (At y)
