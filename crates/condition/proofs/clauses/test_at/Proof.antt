@@ -1,0 +1,14 @@
+use borrow.Author.Needs.{needs}
+use Rattle.condition.specs.Clauses.{testAt}
+use Rattle.condition.proofs.clauses.test_at.Statement.{statement}
+use Rattle.condition.proofs.clauses.test_at.Tie as tie
+
+returns : tie.Need-returns
+unfolding testAt
+returns c = cc
+
+pub test-at-spec : {M : Type 1} → statement M
+test-at-spec =
+    tie.close (tie.spec
+    (λ c. search needs) (λ c κs. search needs) (λ c. search needs) (λ c κs. search needs) (λ c. search needs)
+    (λ c κs. search needs) returns)
