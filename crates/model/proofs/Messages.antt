@@ -13,13 +13,13 @@ use Rattle.model.specs.Run.{Run, into, channel, sending, receiving, pair
 use Rattle.model.specs.Cut.{onChannel, sends, someUpTo}
 use Rattle.model.proofs.Lists.{eq→eqb, some-at, at-some}
 
-sending-send : (e : Event) (m : Message) → sending e ≡ some m → e ≡ Send m
+pub sending-send : (e : Event) (m : Message) → sending e ≡ some m → e ≡ Send m
 sending-send Start m h = cc
 sending-send Internal m h = cc
 sending-send (Send n) m h = cc
 sending-send (Receive n) m h = cc
 
-receiving-receive : (e : Event) (m : Message) → receiving e ≡ some m → e ≡ Receive m
+pub receiving-receive : (e : Event) (m : Message) → receiving e ≡ some m → e ≡ Receive m
 receiving-receive Start m h = cc
 receiving-receive Internal m h = cc
 receiving-receive (Send n) m h = cc

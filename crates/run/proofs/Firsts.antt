@@ -47,6 +47,13 @@ module _ (s bad : List ℕ) where
       go true l = at y p (omega arith) n e (λ i g. below (λ i. getD bad i 0 ≢ 0 → y ≤ placeOf s i (getD bad i 0)) g (λ k. omega (arith, e)) (λ j k. omega (arith, w i j k, ltb-true y x l)))
       go false l = at x q (omega arith) m d (λ i g. below (λ i. getD bad i 0 ≢ 0 → x ≤ placeOf s i (getD bad i 0)) g (λ k. omega (arith, e, ltb-false y x l)) (λ j k. w i j k))
 
+pub none-bad : {s : List ℕ} {n : ℕ} {bad : List ℕ} → Earliest s n bad Nothing → (p : ℕ) → p < n → getD bad p 0 ≡ 0
+none-bad {s} {n} {bad} v = go Nothing refl v
+  where
+    go : (f : First) → f ≡ Nothing → Earliest s n bad f → (p : ℕ) → p < n → getD bad p 0 ≡ 0
+    go f e (nowhere w) = w
+    go f e (at x q h m d w) = absurd (let z : _≡_ {A = ℕ} 0 1 = cc in omega arith)
+
 -- of each process the first state that has the fault, or 0
 pub record Firsts (s : List ℕ) (Fault : ℕ → ℕ → Type 0) (bad : List ℕ) : Type 0 where
   pub there : (p : ℕ) → p < headOf s .processes → getD bad p 0 ≢ 0 → IsState (runIn s) p (getD bad p 0)

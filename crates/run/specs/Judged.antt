@@ -8,7 +8,7 @@ use lib.Dec.{T, ltb}
 use lib.ListN.{getD}
 use Rattle.model.specs.declared.Message.{Message}
 use Rattle.model.specs.declared.Event.the-variants.{Receive}
-use Rattle.model.specs.Run.{processes, into, IsState, sending, receiving, sameMessage, Paired}
+use Rattle.model.specs.Run.{processes, into, IsState, sending, receiving, sameMessage, Paired, Known}
 use Rattle.model.specs.Cut.{AfterCircle, ClockIs}
 use Rattle.record.specs.Bytes.{u16At}
 use Rattle.record.specs.Record.{headOf}
@@ -23,7 +23,7 @@ use Rattle.run.specs.declared.Reading.the-variants.{Accepted, Refused}
 use Rattle.run.specs.States.{placesOf}
 use Rattle.run.specs.Read.{Verdict, readOf}
 use Rattle.run.specs.Read.Verdict.{refused, accepted}
-use Rattle.run.specs.Tables.{statesOf, runIn}
+use Rattle.run.specs.Tables.{statesOf, runIn, Partnered}
 
 module _ (s : List ℕ) where
   -- the byte place of state k of process p
@@ -76,3 +76,8 @@ pub data Earliest (s : List ℕ) (n : ℕ) (bad : List ℕ) : First → Type 0 w
 abbrev pub lowerOf : First → ℕ → First
 lowerOf Nothing x = At x
 lowerOf (At y) x = cond (ltb x y) (At x) (At y)
+
+-- what the pairing gives: the first fault, or that there is none, and the partners
+pub data PairingJudged (s ns : List ℕ) : First → Type 0 where
+  unpaired : (x : ℕ) → FirstAt s (Unpaired s) x → PairingJudged s ns (At x)
+  allPaired : Nowhere s (Unpaired s) → Known (runIn s) → Partnered (runIn s) ns → PairingJudged s ns Nothing

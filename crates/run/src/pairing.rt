@@ -1,5 +1,8 @@
 // 11: each received message with its send. Within a process the file's order is the order of its states, so a second send or receive is one that an
 // earlier state of the same process made already.
+use crate::First;
+use crate::faults::earliest;
+use crate::pass::clear;
 use crate::states::channel_at;
 use crate::states::state_at;
 use model::Event;
@@ -11,6 +14,7 @@ ghost use lib.ListN.{length, getD, replicate};
 ghost use Rattle.model.specs.Run.{count, into, channel, IsState};
 ghost use Rattle.record.specs.Record.{headOf};
 ghost use Rattle.run.specs.Tables.{runIn, Placed, Listed};
+ghost use Rattle.run.specs.Judged.{PairingJudged};
 ghost use Rattle.run.specs.Pairing.{carries, Found, entry, Rising, Repeats, Received, Settled, Row, Rows};
 
 // Whether an event sends, or receives, the message.
@@ -219,4 +223,21 @@ pub fn pair_all(
         bad[row] = first;
         p += 1;
     }
+}
+
+// The first record in file order that is a second send or receive, or a receive with no send; where there is none, the partners.
+pub fn first_unpaired(
+    run: &[u8],
+    counts: &[u16],
+    places: &[u16],
+    partners: &mut [u16],
+    n: u16,
+) -> First
+    requires { ⌜ Listed (now run) (now counts) (now places) × (length (now partners) ≡ 4096) × (n ≡ headOf (now run) .processes) ⌝ }
+    ensures { λ r. ⌜ PairingJudged (now (run .entry)) (now (partners .exit)) r ⌝ }
+{
+    clear(partners);
+    let mut bad = [0u16; 8];
+    pair_all(run, counts, places, partners, &mut bad, n);
+    earliest(run, places, &bad, n)
 }

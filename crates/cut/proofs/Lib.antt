@@ -1,0 +1,6 @@
+pub mod Signs
+pub mod Stored
+pub mod Waiting
+pub mod Passed
+pub mod First
+pub mod Low

@@ -1,0 +1,55 @@
+// The clock test: a cut is consistent if place i of j's clock is less than i's chosen number, for all i and j that differ.
+use crate::Behind;
+ghost use mathlib.Core.Path.{_≡_};
+ghost use mathlib.Core.Logic.{_↔_};
+ghost use mathlib.Core.Bool.{true};
+ghost use Prim.Native.Nat.{_<_};
+ghost use lib.ListN.{length};
+ghost use Rattle.model.specs.Run.{Run};
+ghost use Rattle.model.specs.Cut.{IsCut, Clocks, Consistent};
+ghost use Rattle.run.specs.Tables.{clockIn};
+ghost use Rattle.cut.specs.Clocks.{InTable, behindOf, tooLow};
+
+// The first process that is behind j's clock.
+pub fn behind(clocks: &[u16], cut: &[u16], j: usize) -> Behind
+    requires { ⌜ (length (now clocks) ≡ 32768) × InTable (now cut) × (j < length (now cut)) ⌝ }
+    ensures { λ r. ⌜ r ≡ behindOf (clockIn (now (clocks .entry))) (now (cut .entry)) j ⌝ }
+{
+    let row = 8 * (512 * j + (cut[j] as usize - 1));
+    let mut i = 0;
+    while i < cut.len() {
+        if (i != j) & (cut[i] <= clocks[row + i]) {
+            return Behind::Process(i);
+        }
+        i += 1;
+    }
+    Behind::Nobody
+}
+
+// Of the processes in order, the first whose clock somebody is behind: who is.
+pub fn too_low(clocks: &[u16], cut: &[u16]) -> Behind
+    requires { ⌜ (length (now clocks) ≡ 32768) × InTable (now cut) ⌝ }
+    ensures { λ r. ⌜ r ≡ tooLow (clockIn (now (clocks .entry))) (now (cut .entry)) ⌝ }
+{
+    let mut j = 0;
+    while j < cut.len() {
+        let found = behind(clocks, cut, j);
+        let Behind::Nobody = found else {
+            return found;
+        };
+        j += 1;
+    }
+    Behind::Nobody
+}
+
+// No chosen state is before another, in a run whose clocks the table holds.
+pub fn consistent(clocks: &[u16], cut: &[u16]) -> bool
+    requires { ⌜ (length (now clocks) ≡ 32768) × InTable (now cut) ⌝ }
+    ensures { λ r. ⌜ ((run : Run) → Clocks run (clockIn (now (clocks .entry))) → IsCut run (now (cut .entry)) → (r ≡ true) ↔ Consistent run (now (cut .entry))) ⌝ }
+{
+    let found = too_low(clocks, cut);
+    let Behind::Nobody = found else {
+        return false;
+    };
+    true
+}

@@ -1,0 +1,182 @@
+-- What the pairing tells of the whole run: faults are the paper's, and where there is none the run is known and its partners are right.
+use mathlib.Core.Path.{_≡_, refl, sym, ap, _∙_, subst}
+use mathlib.Core.Logic.{_⊎_, inl, inr, ⊎-elim, _≢_}
+use mathlib.Core.Bool.{Bool, true, false, _&&_}
+use mathlib.Core.List.{List}
+use mathlib.Core.Option.{Option, some, none}
+use Prim.Native.Nat.{ℕ, zero, suc, _+_, _-_, _*_, _≤_, _<_}
+use native.Mathlib.Nat.{eq-or-lt-of-le}
+use native.Mathlib.Decide.{ℕ-discrete}
+use native.Mathlib.Omega.{arith}
+use lib.Dec.{T, eqb, eqb→eq}
+use lib.ListN.{length, getD}
+use Rattle.model.specs.declared.Message.{Message}
+use Rattle.model.specs.declared.Event.{Event}
+use Rattle.model.specs.declared.Event.the-variants.{Start, Internal, Send, Receive}
+use Rattle.model.specs.Run.{Run, count, channel, into, IsState, sending, receiving, sameMessage, Paired, Sides, Known}
+use Rattle.model.proofs.Lists.{le-or-lt, eq→eqb, and-T, T-and}
+use Rattle.model.proofs.Pairing.{view, to-side, one-send, one-receive, sent-there, received-there, process-there}
+use Rattle.model.proofs.Messages.{sending-send, receiving-receive}
+use Rattle.record.specs.Record.{headOf}
+use Rattle.run.specs.declared.First.{First}
+use Rattle.run.specs.declared.First.the-variants.{Nothing, At}
+use Rattle.run.specs.Read.{readOf}
+use Rattle.run.specs.Read.Verdict.{accepted}
+use Rattle.run.specs.Tables.{statesOf, runIn, slot, Partnered}
+use Rattle.run.specs.Judged.{placeOf, Unpaired, FirstAt, Nowhere, Earliest, PairingJudged}
+use Rattle.run.specs.Judged.Unpaired.{secondSend, secondReceive, noSend}
+use Rattle.run.specs.Judged.PairingJudged.{unpaired, allPaired}
+use Rattle.run.specs.Pairing.{which, Clear, Faulty, Backed, Met, Rows}
+use Rattle.run.specs.Pairing.Faulty.{again, alone}
+use Rattle.run.proofs.Listed.{sides, process-of, processes-are, place-rises}
+use Rattle.run.proofs.Firsts.{Firsts, none-bad, first-none, first-at}
+
+-- two messages that are the same have one channel and one number
+same-parts : (o p : Option Message) → T (sameMessage o p) → (m : Message) × (n : Message) × (o ≡ some m) × (p ≡ some n) × (m .channel ≡ n .channel) × (m .number ≡ n .number)
+same-parts none p t = absurd t
+same-parts (some m) none t = absurd t
+same-parts (some m) (some n) t =
+    let (x, y) = and-T (eqb (m .channel) (n .channel)) (eqb (m .number) (n .number)) t in
+    (m, n, refl, refl, eqb→eq (m .channel) (n .channel) x, eqb→eq (m .number) (n .number) y)
+
+parts-same : {o p : Option Message} (m n : Message) → o ≡ some m → p ≡ some n → m .channel ≡ n .channel → m .number ≡ n .number → T (sameMessage o p)
+parts-same m n a b x y =
+    rw (a, b) (T-and (eqb (m .channel) (n .channel)) (eqb (m .number) (n .number)) (eq→eqb (m .channel) (n .channel) x) (eq→eqb (m .number) (n .number) y))
+
+module _ (s : List ℕ) (read : readOf s ≡ accepted (statesOf s)) where
+  abbrev r : Run
+  r = runIn s
+
+  -- ---- a fault is the paper's
+
+  pub faulty-unpaired : (p k : ℕ) → IsState r p k → Faulty r p k → Unpaired s p k
+  unfolding which
+  faulty-unpaired p k t (again true l a b u) =
+      let t′ : IsState r p l = record { counted = a; there = omega (arith, t .there) } in secondSend p l t′ (place-rises s read p l k t′ t b) u
+  faulty-unpaired p k t (again false l a b u) =
+      let t′ : IsState r p l = record { counted = a; there = omega (arith, t .there) } in secondReceive p l t′ (place-rises s read p l k t′ t b) u
+  faulty-unpaired p k t (alone m e w) = noSend m e w
+
+  -- an earlier place of the same process is an earlier state
+  earlier : (p j k : ℕ) → IsState r p j → IsState r p k → placeOf s p j < placeOf s p k → j < k
+  earlier p j k t t′ h = ⊎-elim
+      (λ g. g)
+      (λ g. absurd (⊎-elim (λ e. omega (arith, ap (placeOf s p) e)) (λ l. omega (arith, place-rises s read p k j t′ t l)) (eq-or-lt-of-le (less g))))
+      (le-or-lt (suc j) k)
+    where
+      less : k < suc j → k ≤ j
+      less g = omega arith
+
+  pub clear-paired : (p k : ℕ) → IsState r p k → Clear r p k → ¬ Unpaired s p k
+  clear-paired p k t w (secondSend i j t′ h u) =
+      let (m, n, a, b, x, y) = same-parts (sending (into r i j)) (sending (into r p k)) u in
+      let d = sides s read in
+      let one = d .sender i j m (sending-send (into r i j) m a) .1 in
+      let two = d .sender p k n (sending-send (into r p k) n b) .1 in
+      let same : i ≡ p = sym one ∙ ap (λ c. channel r c .from) x ∙ two in
+      let h′ : placeOf s p j < placeOf s p k = subst (λ i. placeOf s i j < placeOf s p k) same h in
+      w .newSend j (earlier p j k (subst (λ i. IsState r i j) same t′) t h′) (subst (λ i. T (sameMessage (sending (into r i j)) (sending (into r p k)))) same u)
+  clear-paired p k t w (secondReceive i j t′ h u) =
+      let (m, n, a, b, x, y) = same-parts (receiving (into r i j)) (receiving (into r p k)) u in
+      let d = sides s read in
+      let one = d .receiver i j m (receiving-receive (into r i j) m a) .1 in
+      let two = d .receiver p k n (receiving-receive (into r p k) n b) .1 in
+      let same : i ≡ p = sym one ∙ ap (λ c. channel r c .to) x ∙ two in
+      let h′ : placeOf s p j < placeOf s p k = subst (λ i. placeOf s i j < placeOf s p k) same h in
+      w .newReceive j (earlier p j k (subst (λ i. IsState r i j) same t′) t h′) (subst (λ i. T (sameMessage (receiving (into r i j)) (receiving (into r p k)))) same u)
+  clear-paired p k t w (noSend m e v) = let (i, l, q) = w .hasSend m e in v i l q
+
+  -- ---- no fault: the run is known, and the partners are right
+
+  module _ (clear : (p k : ℕ) → IsState r p k → Clear r p k) where
+    once : (i k k′ : ℕ) (m m′ : Message) → into r i k ≡ Send m → into r i k′ ≡ Send m′ → m .channel ≡ m′ .channel → m .number ≡ m′ .number → k ≡ k′
+    once i k k′ m m′ e e′ x y = elim (ℕ-discrete k k′) [
+      | yes z ↦ z
+      | no z ↦ absurd (⊎-elim
+          (λ h. clear i k′ (sent-there e′) .newSend k h (parts-same m m′ (ap sending e) (ap sending e′) x y))
+          (λ h. clear i k (sent-there e) .newSend k′ (other z h) (parts-same m′ m (ap sending e′) (ap sending e) (sym x) (sym y)))
+          (le-or-lt (suc k) k′))
+    ]
+      where
+        other : k ≢ k′ → k′ < suc k → k′ < k
+        other z h = ⊎-elim (λ e. absurd (z (sym e))) (λ g. g) (eq-or-lt-of-le (less h))
+          where
+            less : k′ < suc k → k′ ≤ k
+            less h = omega arith
+
+    taken : (i k k′ : ℕ) (m m′ : Message) → into r i k ≡ Receive m → into r i k′ ≡ Receive m′ → m .channel ≡ m′ .channel → m .number ≡ m′ .number → k ≡ k′
+    taken i k k′ m m′ e e′ x y = elim (ℕ-discrete k k′) [
+      | yes z ↦ z
+      | no z ↦ absurd (⊎-elim
+          (λ h. clear i k′ (received-there e′) .newReceive k h (parts-same m m′ (ap receiving e) (ap receiving e′) x y))
+          (λ h. clear i k (received-there e) .newReceive k′ (other z h) (parts-same m′ m (ap receiving e′) (ap receiving e) (sym x) (sym y)))
+          (le-or-lt (suc k) k′))
+    ]
+      where
+        other : k ≢ k′ → k′ < suc k → k′ < k
+        other z h = ⊎-elim (λ e. absurd (z (sym e))) (λ g. g) (eq-or-lt-of-le (less h))
+          where
+            less : k′ < suc k → k′ ≤ k
+            less h = omega arith
+
+    pub clear-known : Known r
+    clear-known = record { sides = sides s read; once = once; taken = taken; origin = λ j l m e. clear j l (received-there e) .hasSend m e }
+
+  pub met-partnered : Known r → (ns : List ℕ) → Backed r ns → ((p l : ℕ) → IsState r p l → Met r ns p l) → Partnered r ns
+  unfolding Backed Met
+  met-partnered known ns b met = record { sent = sent; received = received; backed = backed }
+    where
+      received : (i k j l : ℕ) → Paired r i k j l → getD ns (slot j l) 0 ≡ k
+      received i k j l q =
+          let v = view q in
+          let (i′, k′, q′, a, z) = met j l (received-there (v .receive)) (v .received) (v .receive) in
+          a ∙ sym (one-send r known q q′ .1)
+
+      -- an entry of a send that isn't 0 is where it is received
+      sent : (i k j l : ℕ) → Paired r i k j l → getD ns (slot i k) 0 ≡ l
+      sent i k j l q =
+          let v = view q in
+          let (i′, k′, q′, a, z) = met j l (received-there (v .receive)) (v .received) (v .receive) in
+          let (x, y) = one-send r known q q′ in
+          let there = sent-there (v .send) in
+          let filled : getD ns (slot i k) 0 ≢ 0 = λ e. z (ap (λ n. getD ns n 0) (ap (λ i. slot i k′) (sym x) ∙ ap (slot i) (sym y)) ∙ e) in
+          ⊎-elim (λ e. absurd (filled e)) (λ w. ⊎-elim
+          (λ (o : (j′ : ℕ) × Paired r i k j′ (getD ns (slot i k) 0)). one-receive r known (o .1) q .1)
+          (λ (o : (j′ : ℕ) × Paired r j′ (getD ns (slot i k) 0) i k). absurd (both (v .send) (view (o .1) .receive)))
+          w) (b i k there)
+        where
+          both : {m n : Message} → into r i k ≡ Send m → into r i k ≡ Receive n → ⊥
+          both e g = let z : _≡_ {A = ℕ} 0 1 = cc (e, g) in omega arith
+
+      backed : (i k : ℕ) (m : Message) → into r i k ≡ Send m → (getD ns (slot i k) 0 ≡ 0) ⊎ Paired r i k (channel r (m .channel) .to) (getD ns (slot i k) 0)
+      backed i k m e = ⊎-elim (λ z. inl z) (λ w. ⊎-elim
+          (λ (o : (j : ℕ) × Paired r i k j (getD ns (slot i k) 0)).
+          let v = view (o .1) in
+          let same : v .sent ≡ m = cc (v .send, e) in
+          let end : o .0 ≡ channel r (m .channel) .to = sym (to-side r (sides s read) v) ∙ ap (λ c. channel r c .to) (sym (v .on) ∙ ap (λ n. n .channel) same) in
+          inr (subst (λ j. Paired r i k j (getD ns (slot i k) 0)) end (o .1)))
+          (λ (o : (j : ℕ) × Paired r j (getD ns (slot i k) 0) i k). absurd (let g = view (o .1) .receive in let z : _≡_ {A = ℕ} 0 1 = cc (e, g) in omega arith))
+          w) (b i k (sent-there e))
+
+  -- ---- the rows of all processes
+
+  module _ (bad ns : List ℕ) (w : Rows r (headOf s .processes) bad ns) where
+    firsts : Firsts s (Unpaired s) bad
+    firsts = record {
+      there = λ p h n. w .faulty p h n .0;
+      fault = λ p h n. let (t, f) = w .faulty p h n in faulty-unpaired p (getD bad p 0) t f;
+      first = λ p k h t g. clear-paired p k t (w .clear p k h t g);
+    }
+
+    all-clear : ((p : ℕ) → p < headOf s .processes → getD bad p 0 ≡ 0) → (p k : ℕ) → IsState r p k → Clear r p k
+    all-clear z p k t = let h = process-of s read t in w .clear p k h t (inl (z p h))
+
+    pub pairing-judged : (f : First) → Earliest s (headOf s .processes) bad f → PairingJudged s ns f
+    pairing-judged Nothing e =
+        let z = none-bad e in
+        let known = clear-known (all-clear z) in
+        allPaired (first-none s read (Unpaired s) bad firsts e) known (met-partnered known ns (w .backed z) (λ p l t. w .met z p l (process-of s read t) t))
+    pairing-judged (At x) e = unpaired x (first-at s read (Unpaired s) bad firsts x e)
+
+    pub rows-there : (p : ℕ) → p < headOf s .processes → getD bad p 0 ≢ 0 → IsState r p (getD bad p 0)
+    rows-there p h n = w .faulty p h n .0

@@ -1,0 +1,247 @@
+"""Cases for a comparison: questions in a binary form, and the answers as text.
+
+A case is, little-endian: the question (1 byte), the lent places or the channel
+asked (2), the number of cut numbers (2), the length of the run (4), the length
+of the condition (4), then the cut numbers (2 each), the run, the condition.
+"""
+
+from __future__ import annotations
+
+import struct
+import sys
+from collections import Counter
+from typing import Iterator, NamedTuple, Optional
+
+import reading
+from answer import found_lines, refused_line
+from fixed import fixed_questions
+from generate import MOST_LENT, seeded_questions
+from questions import (
+    CONSISTENT,
+    MESSAGES,
+    SATISFIES,
+    SEARCH,
+    Question,
+    consistent,
+    messages,
+    satisfies,
+    search,
+    search_refusal,
+    shown_bytes,
+)
+from reading import Refusal
+
+MOST_CUT_NUMBERS = 24
+LONGEST_PART = 66_000
+FIRST_PLACE = 60_000
+
+QUESTION_NAMES = {
+    1: "search",
+    2: "consistent",
+    3: "satisfies",
+    4: "messages",
+    5: "bytes shown",
+}
+ANSWER_KINDS = (
+    "found", "none", "yes", "no", "count", "shown", "nothing shown", "refused"
+)
+
+
+class Answer(NamedTuple):
+    """The refusal is kept for the table also where the text doesn't show it."""
+
+    text: str
+    kind: str
+    refusal: Optional[Refusal] = None
+
+
+# The binary form
+
+
+def encode_case(question: Question) -> bytes:
+    assert question.extra <= MOST_LENT or question.kind == MESSAGES
+    assert len(question.cut) <= MOST_CUT_NUMBERS
+    assert max(len(question.run), len(question.condition)) <= LONGEST_PART
+    head = struct.pack(
+        "<BHHII",
+        question.kind,
+        question.extra,
+        len(question.cut),
+        len(question.run),
+        len(question.condition),
+    )
+    numbers = struct.pack(f"<{len(question.cut)}H", *question.cut)
+    return head + numbers + question.run + question.condition
+
+
+def decode_cases(data: bytes) -> Iterator[Question]:
+    place = 0
+    while place < len(data):
+        kind, extra, size, run_size, condition_size = struct.unpack_from(
+            "<BHHII", data, place
+        )
+        place += 13
+        cut = struct.unpack_from(f"<{size}H", data, place)
+        place += 2 * size
+        run = data[place : place + run_size]
+        place += run_size
+        condition = data[place : place + condition_size]
+        place += condition_size
+        yield Question(kind, extra, cut, run, condition)
+
+
+# The answers
+
+
+def answer_of(question: Question) -> Answer:
+    if question.kind == SEARCH:
+        return search_answer(question)
+    if question.kind in (CONSISTENT, SATISFIES, MESSAGES):
+        return smaller_answer(question)
+    return shown_answer(question)
+
+
+def search_answer(question: Question) -> Answer:
+    places = [FIRST_PLACE + index for index in range(question.extra)]
+    refusal = None
+    try:
+        found = search(question.run, question.condition, question.extra)
+    except Refusal as raised:
+        refusal = raised
+        lines = [refused_line(raised)]
+    else:
+        lines = found_lines(found)
+        if found is not None:
+            places[: len(found.cut)] = found.cut
+    kind = lines[0].split()[0]
+    lines.append(" ".join(["places", *map(str, places)]))
+    return Answer("".join(line + "\n" for line in lines), kind, refusal)
+
+
+def smaller_answer(question: Question) -> Answer:
+    try:
+        if question.kind == MESSAGES:
+            count = messages(question.run, question.cut, question.extra)
+            return Answer(f"count {count}\n", "count")
+        if question.kind == CONSISTENT:
+            holds = consistent(question.run, question.cut)
+        else:
+            holds = satisfies(question.run, question.condition, question.cut)
+    except Refusal as refusal:
+        return Answer(refused_line(refusal) + "\n", "refused", refusal)
+    word = "yes" if holds else "no"
+    return Answer(word + "\n", word)
+
+
+def shown_answer(question: Question) -> Answer:
+    refusal = search_refusal(question.run, question.condition, question.extra)
+    shown = shown_bytes(question.run, question.condition, refusal)
+    kind = "shown" if shown else "nothing shown"
+    return Answer(f"shown {shown.hex() or '-'}\n", kind, refusal)
+
+
+# The table
+
+
+class Table:
+    def __init__(self) -> None:
+        self.cases = 0
+        self.questions: Counter[int] = Counter()
+        self.answers: Counter[str] = Counter()
+        self.refusals: Counter[tuple[int, str, bool]] = Counter()
+        self.clauses: Counter[tuple[int, int, str]] = Counter()
+
+    def count(self, question: Question, answer: Answer) -> None:
+        self.cases += 1
+        self.questions[question.kind] += 1
+        self.answers[answer.kind] += 1
+        if answer.refusal is not None:
+            told = answer.kind == "refused"
+            self.refusals[answer.refusal.number, answer.refusal.file, told] += 1
+        for kind, number in clause_kinds(question.condition):
+            self.clauses[kind, number, answer.kind] += 1
+
+    def lines(self) -> Iterator[str]:
+        yield f"cases {self.cases}"
+        for kind, name in QUESTION_NAMES.items():
+            yield f"question {kind} {name}: {self.questions[kind]}"
+        for kind in ANSWER_KINDS:
+            yield f"answer {kind}: {self.answers[kind]}"
+        for number in range(1, 19):
+            yield self.refusal_line(number)
+        for comparison in range(1, 5):
+            yield self.clause_line("comparison", reading.KIND_LOCAL_CLAUSE, comparison)
+        for test in range(1, 10):
+            yield self.clause_line("test", reading.KIND_CHANNEL_CLAUSE, test)
+
+    def refusal_line(self, number: int) -> str:
+        run, condition = (
+            self.refusals[number, file, True] for file in (reading.RUN, reading.CONDITION)
+        )
+        behind = sum(
+            self.refusals[number, file, False]
+            for file in (reading.RUN, reading.CONDITION)
+        )
+        return f"refusal {number}: run {run}, cond {condition}, behind bytes shown {behind}"
+
+    def clause_line(self, name: str, kind: int, number: int) -> str:
+        parts = [
+            f"{answer} {self.clauses[kind, number, answer]}"
+            for answer in ANSWER_KINDS
+            if answer != "count"
+        ]
+        return f"{name} {number}: " + ", ".join(parts)
+
+
+def clause_kinds(condition: bytes) -> list[tuple[int, int]]:
+    """Kind and comparison or test of each clause, each pair once.
+
+    Read as far as the records go, since refused conditions count as well.
+    """
+    kinds: set[tuple[int, int]] = set()
+    place = 0
+    try:
+        while True:
+            record = reading.read_record(condition, place, reading.CONDITION)
+            place = record.next_place
+            if record.kind == reading.KIND_LOCAL_CLAUSE and len(record.body) >= 6:
+                kinds.add((record.kind, struct.unpack_from("<H", record.body, 4)[0]))
+            if record.kind == reading.KIND_CHANNEL_CLAUSE and len(record.body) >= 4:
+                kinds.add((record.kind, struct.unpack_from("<H", record.body, 2)[0]))
+    except Refusal:
+        return sorted(kinds)
+
+
+# The two files
+
+
+def all_questions(seed: int, count: int) -> Iterator[Question]:
+    yield from fixed_questions()
+    yield from seeded_questions(seed, count)
+
+
+def write_cases(seed: int, count: int, input_path: str, expected_path: str) -> Table:
+    table = Table()
+    with open(input_path, "wb") as inputs, open(
+        expected_path, "w", encoding="ascii", newline="\n"
+    ) as expected:
+        for question in all_questions(seed, count):
+            answer = answer_of(question)
+            inputs.write(encode_case(question))
+            expected.write(answer.text)
+            table.count(question, answer)
+    return table
+
+
+def main(arguments: list[str]) -> int:
+    if len(arguments) != 4:
+        print("usage: cases.py SEED COUNT INPUT EXPECTED", file=sys.stderr)
+        return 2
+    table = write_cases(int(arguments[0]), int(arguments[1]), *arguments[2:])
+    for line in table.lines():
+        print(line)
+    return 0
+
+
+if __name__ == "__main__":
+    sys.exit(main(sys.argv[1:]))

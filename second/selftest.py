@@ -1,0 +1,425 @@
+"""Checks this program itself: marked cases, definitions against each other, refusals."""
+
+from __future__ import annotations
+
+import os
+import sys
+import tempfile
+from typing import Callable, Iterator, Optional
+
+import encode
+from answer import answer_lines
+from cases import answer_of, decode_cases, encode_case
+from chance import Chance
+from conditions import Aim, draw_clause
+from damage import put
+from execution import (
+    Draft,
+    add_untimely_message,
+    draw_channels,
+    file_order,
+    run_of,
+    simulate,
+)
+from fixed import circle_draft, draft_bytes, fixed_questions
+from generate import seeded_questions
+from marked import (
+    NO_CLAUSE,
+    marked_conditions,
+    marked_wrong_clock,
+    run_of_starts,
+    small_condition,
+    two_desks,
+    two_desks_cuts,
+    two_desks_records,
+)
+from model import (
+    Clause,
+    Run,
+    chosen_positions,
+    clause_holds,
+    clocks,
+    direct_pairs,
+    every_cut,
+    first_by_enumeration,
+    first_by_moving_up,
+    has_early_receive,
+    is_consistent,
+    on_or_after_circle,
+    process_to_move,
+    stamps_in_transit,
+)
+from questions import Found, consistent, messages, satisfies, search, shown
+from reading import Refusal, judge_run
+
+Outcome = tuple[str, object, object]
+Told = tuple[str, int, int, bool]
+
+
+def told(call: Callable[[], object]) -> Optional[Told]:
+    """The refusal that a call gives, if it gives one."""
+    try:
+        call()
+    except Refusal as refusal:
+        return refusal.file, refusal.number, refusal.place, refusal.after
+    return None
+
+
+# The marked cases
+
+
+def marked_cases() -> Iterator[Outcome]:
+    run, conditions = two_desks(), marked_conditions()
+    yield "length of the run of two desks", len(run), 252
+    inconsistent = [cut for cut in two_desks_cuts() if not consistent(run, cut)]
+    yield "marked case 1", inconsistent, [(1, 2), (1, 3)]
+    yield "marked case 2", search(run, conditions[0], 2), Found((1, 1), (0,))
+    yield "marked case 3", search(run, conditions[1], 2), Found((2, 1), (1,))
+    yield "marked case 4", search(run, conditions[2], 2), Found((2, 2), (0,))
+    yield "marked case 5", search(run, conditions[3], 2), Found((2, 3), (0,))
+    yield "marked case 6", search(run, conditions[4], 2), None
+    yield "marked case 7", search(run, conditions[5], 2), Found((1, 1), (0,))
+    yield "marked case 8", search(run, conditions[6], 2), None
+    yield "marked case 9", messages(run, (1, 2), 0), 0
+    wrong = told(lambda: search(marked_wrong_clock(), NO_CLAUSE, 2))
+    yield "marked case 10", wrong, ("run", 13, 172, False)
+
+
+# Refusals written out by hand
+
+
+def run_refusal(run: bytes) -> Optional[Told]:
+    return told(lambda: judge_run(run))
+
+
+def changed_run(record: int, offset: int, number: int, size: int = 2) -> bytes:
+    records = [bytearray(each) for each in two_desks_records()]
+    put(records[record], offset, number, size)
+    return b"".join(records)
+
+
+def frame_refusals() -> Iterator[Outcome]:
+    run = two_desks()
+    for name, data, number, place, after in [
+        ("an empty run", b"", 2, 0, False),
+        ("a single byte", b"\x0a", 2, 0, False),
+        ("length 3 with nothing behind", b"\x03\x00", 3, 0, False),
+        ("length 4 with nothing behind", b"\x04\x00", 2, 0, False),
+        ("no end record", run[:-4], 2, 248, False),
+        ("half a state", run[:100], 2, 96, False),
+        ("one byte after the end", run + b"\x00", 4, 252, True),
+        ("65,536 bytes", run.ljust(65_536, b"\x00"), 1, 0, False),
+        ("65,535 bytes", run.ljust(65_535, b"\x00"), 4, 252, True),
+        ("an end of five bytes", changed_run(8, 0, 5) + b"\x00", 3, 248, False),
+        ("a condition as a run", small_condition(), 4, 0, False),
+    ]:
+        yield name, run_refusal(data), ("run", number, place, after)
+
+
+def record_refusals() -> Iterator[Outcome]:
+    for name, data, number, place in [
+        ("format 2", changed_run(0, 4, 2), 6, 0),
+        ("no process", changed_run(0, 6, 0), 5, 0),
+        ("nine processes", changed_run(0, 6, 9), 5, 0),
+        ("seventeen channels", changed_run(0, 8, 17), 5, 0),
+        ("one channel too few", changed_run(0, 8, 2), 4, 20),
+        ("one channel too many", changed_run(0, 8, 0), 4, 10),
+        ("channel out of turn", changed_run(1, 4, 1), 7, 10),
+        ("equal ends", changed_run(1, 8, 0), 7, 10),
+        ("missing process", changed_run(4, 4, 2), 7, 96),
+        ("missing channel", changed_run(3, 8, 1), 7, 58),
+        ("unknown event", changed_run(5, 6, 4), 8, 134),
+        ("unknown event with a wild channel", changed_run(5, 6, 2**16 + 4, 4), 8, 134),
+        ("start with a message", changed_run(2, 12, 1), 8, 20),
+        ("receive with a stamp", changed_run(6, 17, 128), 8, 172),
+        ("start missing", changed_run(2, 6, 1), 9, 20),
+        ("start misplaced", changed_run(7, 6, 0), 9, 210),
+        ("send by the receiver", changed_run(6, 6, 2), 10, 172),
+        ("receive with no send", changed_run(6, 10, 8), 11, 172),
+        ("send renamed", changed_run(3, 10, 8), 11, 172),
+        ("own place of a clock", changed_run(4, 34, 2), 13, 96),
+        ("clock of a start", changed_run(5, 34, 1), 13, 134),
+    ]:
+        yield name, run_refusal(data), ("run", number, place, False)
+    records = two_desks_records()
+    alone = b"".join([*records[:5], records[8]])
+    yield "a process with no state", run_refusal(alone), ("run", 9, 134, False)
+    for process_count in (1, 8):
+        refusal = run_refusal(run_of_starts(process_count))
+        yield f"{process_count} processes", refusal, None
+
+
+def circle_refusals() -> Iterator[Outcome]:
+    for size, place in ((2, 68), (3, 80)):
+        draft = circle_draft(size)
+        run = draft_bytes(draft, file_order(Chance(1), draft, "by process"))
+        yield f"{size} in a circle", run_refusal(run), ("run", 12, place, False)
+    # The hearer's records come first; only its third state is after the circle.
+    draft = circle_draft(2, 1)
+    order = file_order(Chance(1), draft, "by process, last first")
+    refusal = run_refusal(draft_bytes(draft, order))
+    yield "after a circle", refusal, ("run", 12, 40 + 2 * 40, False)
+
+
+def condition_refusals() -> Iterator[Outcome]:
+    run, clause = two_desks(), encode.local_clause(0, 0, 1, 0)
+    for name, condition, number, place, after in [
+        ("an empty condition", b"", 2, 0, False),
+        ("a run as a condition", run, 4, 0, False),
+        ("K of 33", encode.condition(*[clause] * 33), 5, 0, False),
+        ("a clause too few", encode.condition_head(1) + encode.end(), 4, 6, False),
+        ("a clause too many", encode.condition_head(0) + clause, 4, 6, False),
+        ("value 4", encode.condition(encode.local_clause(0, 4, 0, 0)), 7, 6, False),
+        ("process 2", encode.condition(encode.local_clause(2, 0, 1, 0)), 7, 6, False),
+        ("comparison 5", encode.condition(encode.local_clause(0, 0, 5, 0)), 8, 6, False),
+        ("channel 1", encode.condition(encode.channel_clause(1, 9, 0)), 7, 6, False),
+        ("test 10", encode.condition(encode.channel_clause(0, 10, 0)), 8, 6, False),
+        ("test 9", encode.condition(clause, encode.channel_clause(0, 9, 0)), 14, 20, False),
+        ("a byte after", NO_CLAUSE + b"\x04", 4, 10, True),
+        ("too long", NO_CLAUSE.ljust(65_536, b"\x00"), 1, 0, False),
+    ]:
+        refusal = told(lambda: search(run, condition, 2))
+        yield name, refusal, ("cond", number, place, after)
+
+
+def order_of_refusals() -> Iterator[Outcome]:
+    run, wrong, short = two_desks(), marked_wrong_clock(), b"\x00"
+    for name, call, expected in [
+        ("run first", lambda: search(wrong, short, 0), ("run", 13, 172, False)),
+        ("condition next", lambda: search(run, short, 0), ("cond", 2, 0, False)),
+        ("then room", lambda: search(run, NO_CLAUSE, 1), ("run", 15, 0, False)),
+        ("exact room", lambda: search(run, NO_CLAUSE, 2), None),
+        ("cut before channel", lambda: messages(run, (0, 1), 9), ("run", 16, 0, False)),
+        ("channel", lambda: messages(run, (1, 1), 1), ("run", 17, 0, False)),
+        ("past the last", lambda: consistent(run, (1, 4)), ("run", 16, 0, False)),
+        ("short cut", lambda: satisfies(run, NO_CLAUSE, (1,)), ("run", 16, 0, False)),
+    ]:
+        yield name, told(call), expected
+    yield "inconsistent without clauses", satisfies(run, NO_CLAUSE, (1, 2)), False
+
+
+def bytes_shown() -> Iterator[Outcome]:
+    run, record = two_desks(), two_desks_records()[6]
+    wrong = bytearray(record)
+    put(wrong, 34, 2)
+    after = encode.end() + b"\x01"
+    for name, got, expected in [
+        ("shown for a clock", shown(marked_wrong_clock(), b"", 0), bytes(wrong)),
+        ("shown after the end", shown(run + after, b"", 0), after),
+        ("shown of half a record", shown(run[:180], b"", 0), run[172:180]),
+        ("shown of a single byte", shown(run[:173], b"", 0), run[172:173]),
+        ("shown of length 0", shown(changed_run(6, 0, 0), b"", 0), b""),
+        ("shown of length 3", shown(changed_run(6, 0, 3), b"", 0), b"\x03\x00\x03"),
+        ("shown of a condition", shown(run, small_condition()[:8], 0), b"\x0e\x00"),
+        ("shown for no room", shown(run, NO_CLAUSE, 0), b""),
+        ("shown for found", shown(run, NO_CLAUSE, 2), b""),
+    ]:
+        yield name, got, expected
+
+
+# Definitions against each other, on drawn runs
+
+
+def drawn_draft(chance: Chance, most_states: int) -> Draft:
+    process_count = chance.between(1, 5)
+    channels = draw_channels(chance, process_count, 4)
+    count = chance.between(process_count, most_states)
+    return simulate(chance, process_count, channels, count)
+
+
+def drawn_run(chance: Chance, draft: Draft) -> Run:
+    return run_of(draft, file_order(chance, draft))
+
+
+def drawn_clauses(chance: Chance, run: Run, draft: Draft, count: int) -> list[Clause]:
+    aim = Aim(run, chance.pick(draft.cuts), draft.cuts[0])
+    return [draw_clause(chance, aim, chance.percent(80)) for _ in range(count)]
+
+
+def reached_from(pairs: list[tuple[int, int]], source: int) -> list[int]:
+    """All positions at the end of a path of one step or more."""
+    reached: list[int] = []
+    edge = [source]
+    while edge:
+        position = edge.pop()
+        for earlier, later in pairs:
+            if earlier == position and later not in reached:
+                reached.append(later)
+                edge.append(later)
+    return sorted(reached)
+
+
+def closure_by_paths() -> Iterator[Outcome]:
+    chance = Chance(101)
+    for index in range(60):
+        draft = drawn_draft(chance, 14)
+        for _ in range(index % 4):
+            add_untimely_message(chance, draft)
+        run = drawn_run(chance, draft)
+        size = len(run.states)
+        by_closure = [
+            [later for later in range(size) if run.before[later] >> position & 1]
+            for position in range(size)
+        ]
+        pairs = direct_pairs(run)
+        by_paths = [reached_from(pairs, position) for position in range(size)]
+        yield f"before by paths {index}", by_closure, by_paths
+        circular = any(position in by_paths[position] for position in range(size))
+        yield f"circle by paths {index}", bool(on_or_after_circle(run)), circular
+
+
+def consistent_by_clocks(run: Run, cut: tuple[int, ...]) -> bool:
+    rows = clocks(run)
+    chosen = [rows[position] for position in chosen_positions(run, cut)]
+    return all(
+        chosen[later][earlier] < cut[earlier]
+        for earlier in range(len(cut))
+        for later in range(len(cut))
+        if earlier != later
+    )
+
+
+def balances(run: Run, cut: tuple[int, ...]) -> bool:
+    """On each channel, sent equals received plus in transit."""
+    for channel in range(len(run.channels)):
+        sent, received = (
+            sum(state.number <= cut[state.process] for state in states[channel])
+            for states in (run.sends, run.receives)
+        )
+        if sent != received + len(stamps_in_transit(run, cut, channel)):
+            return False
+    return True
+
+
+def three_ways_of_consistency() -> Iterator[Outcome]:
+    chance = Chance(102)
+    for index in range(60):
+        draft = drawn_draft(chance, 10)
+        run = drawn_run(chance, draft)
+        cuts = list(every_cut(run))
+        by_definition = [cut for cut in cuts if is_consistent(run, cut)]
+        by_clocks = [cut for cut in cuts if consistent_by_clocks(run, cut)]
+        by_messages = [cut for cut in cuts if not has_early_receive(run, cut)]
+        yield f"consistency by clocks {index}", by_definition, by_clocks
+        yield f"consistency by messages {index}", by_definition, by_messages
+        unbalanced = [cut for cut in by_definition if not balances(run, cut)]
+        yield f"messages balance {index}", unbalanced, []
+        lost = [cut for cut in draft.cuts if cut not in by_definition]
+        yield f"moments are consistent {index}", lost, []
+
+
+def enumeration_against_moving_up() -> Iterator[Outcome]:
+    chance = Chance(103)
+    for index in range(3_000):
+        draft = drawn_draft(chance, 15)
+        run = drawn_run(chance, draft)
+        clauses = drawn_clauses(chance, run, draft, chance.between(0, 4))
+        by_enumeration = first_by_enumeration(run, clauses)
+        yield f"first cut {index}", first_by_moving_up(run, clauses), by_enumeration
+
+
+def stays_false(run: Run, clause: Clause, cut: tuple[int, ...]) -> bool:
+    process = process_to_move(run, clause, cut)
+    return not any(
+        clause_holds(run, clause, later)
+        for later in every_cut(run)
+        if later[process] == cut[process] and all(map(int.__le__, cut, later))
+    )
+
+
+def who_has_to_move() -> Iterator[Outcome]:
+    chance = Chance(104)
+    for index in range(150):
+        draft = drawn_draft(chance, 8)
+        run = drawn_run(chance, draft)
+        (clause,) = drawn_clauses(chance, run, draft, 1)
+        wrong = [
+            cut
+            for cut in every_cut(run)
+            if not clause_holds(run, clause, cut) and not stays_false(run, clause, cut)
+        ]
+        yield f"who has to move {index}", wrong, []
+
+
+# The program and the case format
+
+
+def printed_answers() -> Iterator[Outcome]:
+    with tempfile.TemporaryDirectory() as folder:
+        paths = {}
+        for name, data in [
+            ("run", two_desks()),
+            ("wrong", marked_wrong_clock()),
+            ("long", two_desks().ljust(70_000, b"\x00")),
+            ("three", marked_conditions()[1]),
+            ("six", marked_conditions()[4]),
+        ]:
+            paths[name] = os.path.join(folder, name)
+            with open(paths[name], "wb") as file:
+                file.write(data)
+        missing = os.path.join(folder, "missing")
+        found = ["found", "state 0 2", "state 1 1", "channel 0 1"]
+        for run, condition, expected in [
+            (paths["run"], paths["three"], found),
+            (paths["run"], paths["six"], ["none"]),
+            (paths["wrong"], paths["six"], ["refused run 13 172"]),
+            (paths["long"], paths["six"], ["refused run 1 0"]),
+            (paths["wrong"], missing, ["unreadable cond"]),
+            (missing, missing, ["unreadable run"]),
+            (folder, paths["six"], ["unreadable run"]),
+            (paths["run"], folder, ["unreadable cond"]),
+        ]:
+            yield f"printed {expected[0]}", answer_lines(run, condition), expected
+
+
+def case_format() -> Iterator[Outcome]:
+    drawn = list(seeded_questions(7, 60))
+    data = b"".join(encode_case(question) for question in drawn)
+    yield "cases read back", list(decode_cases(data)), drawn
+    yield "same seed, same cases", list(seeded_questions(7, 60)), drawn
+    yield "another seed", list(seeded_questions(8, 60)) != drawn, True
+    asked = list(fixed_questions())
+    kinds = sorted({question.kind for question in asked})
+    yield "fixed questions of each kind", kinds, [1, 2, 3, 4, 5]
+    first = answer_of(asked[9])
+    expected = "found\nstate 0 1\nstate 1 1\nchannel 0 0\nplaces 1 1\n"
+    yield "text of a search", first.text, expected
+    more_places = answer_of(asked[9]._replace(extra=4))
+    last_line = more_places.text.splitlines()[-1]
+    yield "places past the cut", last_line, "places 1 1 60002 60003"
+    no_place = answer_of(asked[9]._replace(extra=0))
+    yield "no place", no_place.text, "refused run 15 0\nplaces\n"
+
+
+GROUPS: list[Callable[[], Iterator[Outcome]]] = [
+    marked_cases,
+    frame_refusals,
+    record_refusals,
+    circle_refusals,
+    condition_refusals,
+    order_of_refusals,
+    bytes_shown,
+    closure_by_paths,
+    three_ways_of_consistency,
+    enumeration_against_moving_up,
+    who_has_to_move,
+    printed_answers,
+    case_format,
+]
+
+
+def main() -> int:
+    passed = failed = 0
+    for group in GROUPS:
+        for name, got, expected in group():
+            if got == expected:
+                passed += 1
+            else:
+                failed += 1
+                print(f"{group.__name__}: {name}: {got!r} in place of {expected!r}")
+    print(f"{passed} passed, {failed} failed")
+    return 1 if failed else 0
+
+
+if __name__ == "__main__":
+    sys.exit(main())
