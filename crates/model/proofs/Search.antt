@@ -24,11 +24,11 @@ use Rattle.model.specs.declared.Mover.the-variants.{Sender, Receiver}
 
 module _ (r : Run) (cond : List Clause) where
   -- at or below every satisfying cut in each place
-  pub Under : List ℕ → Type 0
+  unfoldable pub Under : List ℕ → Type 0
   Under c = (d : List ℕ) → Satisfies r cond d → (i : ℕ) → at c i ≤ at d i
 
   -- every satisfying cut is further on at process p
-  pub Moves : List ℕ → ℕ → Type 0
+  unfoldable pub Moves : List ℕ → ℕ → Type 0
   Moves c p = (d : List ℕ) → Satisfies r cond d → at c p < at d p
 
   -- so the search may move p on by one, and where p is at its last state nothing satisfies

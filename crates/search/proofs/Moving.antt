@@ -1,0 +1,151 @@
+-- Who is named has to move; and the cut of the elimination is at or below every satisfying cut.
+use mathlib.Core.Path.{_≡_, refl, sym, ap, _∙_, subst}
+use mathlib.Core.Logic.{⊎-elim}
+use mathlib.Core.List.{List, [], _∷_, map, List·Memᴰ, List·Memᴰ·head, List·Memᴰ·tail, List·Memᴰ·not-nil}
+use Prim.Native.Nat.{ℕ, zero, suc, _+_, _-_, _*_, _≤_, _<_}
+use native.Mathlib.Nat.{eq-or-lt-of-le}
+use native.Mathlib.Decide.{ℕ-discrete}
+use native.Mathlib.Numerals.{add-one}
+use native.Mathlib.Omega.{arith}
+use lib.Dec.{T}
+use lib.ListN.{length, getD, set, replicate, length-set}
+use lib.Seq.{getD-set-same, getD-set-other}
+use Rattle.model.specs.Run.{Run, processes, count, IsState}
+use Rattle.model.specs.Cut.{at, IsCut, ByClock, Clocks}
+use Rattle.model.specs.Clause.{Clause, holds, Linear, Satisfies, First}
+use Rattle.model.proofs.Search.{Under, Moves, move-on, run-out, arrive, clock-moves, ones-cut, ones-under, all-tested}
+use Rattle.record.specs.Record.{headOf}
+use Rattle.run.specs.Tables.{runIn, clockIn, Tables, Listed}
+use Rattle.run.proofs.Listed.{ok, processes-are, count-is, listed-count}
+use Rattle.condition.specs.Clauses.{clauseAt, clausesOf}
+use Rattle.condition.specs.Read.{placesIn, readOf, clausesIn}
+use Rattle.condition.specs.Known.{ClauseKnown, Known}
+use Rattle.condition.proofs.Accepted.{condition-known, condition-linear}
+use Rattle.cut.specs.declared.Behind.{Behind}
+use Rattle.cut.specs.declared.Behind.the-variants.{Nobody, Process}
+use Rattle.cut.specs.Lent.{Lent}
+use Rattle.cut.specs.Clocks.{tooLow, InTable}
+use Rattle.cut.proofs.Low.{Low, too-low-found, nobody-by-clock, cut-in-table}
+use Rattle.search.specs.declared.Answer.the-variants as A
+use Rattle.search.specs.Search.{Given, clausesFor, Tested, Lowest, MustMove, Moved, Searched}
+use Rattle.search.specs.Search.Moved.{nobody, process}
+use Rattle.search.specs.Search.Searched.{found, nowhere}
+use Rattle.search.proofs.Tests.{tested-moves}
+
+-- ---- the entries of a mapped list
+
+map-mem : {A B : Type 0} (f : A → B) (l : List A) (j : ℕ) (d : A) → j < length l → List·Memᴰ (f (getD l j d)) (map f l)
+map-mem f [] j d h = absurd (omega arith)
+map-mem f (x ∷ l) zero d h = List·Memᴰ·head refl
+map-mem f (x ∷ l) (suc j) d h = List·Memᴰ·tail (map-mem f l j d (omega arith))
+
+map-each : {A B : Type 0} (f : A → B) (P : B → Type 0) (l : List A) (d : A) → ((j : ℕ) → j < length l → P (f (getD l j d))) → (k : B) → List·Memᴰ k (map f l) → P k
+map-each f P [] d w k m = absurd (List·Memᴰ·not-nil m)
+map-each f P (x ∷ l) d w k (List·Memᴰ·head e) = subst P (sym e) (w 0 (omega arith))
+map-each f P (x ∷ l) d w k (List·Memᴰ·tail m) = map-each f P l d (λ j h. w (suc j) (omega arith)) k m
+
+module _ {s c cs ps ns ks qs : List ℕ} {k : ℕ} (g : Given s c cs ps ns ks qs k) where
+  abbrev r : Run
+  r = runIn s
+
+  pub lent : Lent s ps ns
+  lent = record { counts = cs; clocks = ks; tables = g .tables }
+
+  pub listed : Listed s cs ps
+  listed = record { read = g .tables .read; index = g .tables .index; long = g .tables .places-long }
+
+  linear : Linear (clausesFor s c)
+  unfolding clausesIn
+  linear = condition-linear c (headOf s) (placesIn (readOf c (headOf s))) (g .read)
+
+  pub clause-known : (j : ℕ) → j < k → ClauseKnown c (headOf s) (getD qs j 0)
+  clause-known j h = rw (g .placed j h) (condition-known c (headOf s) (placesIn (readOf c (headOf s))) (g .read) .clauses j (omega (arith, g .counted)))
+
+  pub few-clauses : k ≤ 32
+  few-clauses = omega (arith, g .counted, condition-known c (headOf s) (placesIn (readOf c (headOf s))) (g .read) .few)
+
+  clause-in : (j : ℕ) → j < k → List·Memᴰ (clauseAt c (getD qs j 0)) (clausesFor s c)
+  unfolding clausesIn clausesOf
+  clause-in j h = rw (g .placed j h) (map-mem (clauseAt c) (placesIn (readOf c (headOf s))) j 0 (omega (arith, g .counted)))
+
+  module _ (cut : List ℕ) (is : IsCut r cut) (low : Lowest r (clausesFor s c) cut) where
+    every-clause : ((j : ℕ) → j < k → T (holds r cut (clauseAt c (getD qs j 0)))) → (x : Clause) → List·Memᴰ x (clausesFor s c) → T (holds r cut x)
+    unfolding clausesIn clausesOf
+    every-clause w = map-each (clauseAt c) (λ x. T (holds r cut x)) (placesIn (readOf c (headOf s))) 0
+        (λ j h. let l : j < k = omega (arith, g .counted) in subst (λ q. T (holds r cut (clauseAt c q))) (g .placed j l) (w j l))
+
+    -- a false clause
+    pub moved-clause : (j : ℕ) → j < k → {b : Behind} {p : ℕ} → b ≡ Process p → Tested r cut (clauseAt c (getD qs j 0)) b → Moved s c ks cut b
+    moved-clause j h {b} {p} e t =
+        let (a, m) = tested-moves r (clausesFor s c) cut (clauseAt c (getD qs j 0)) linear low (clause-in j h) b p e t in
+        subst (Moved s c ks cut) (sym e) (process p a m)
+
+    pub tested-holds : {x : Clause} {b : Behind} → b ≡ Nobody → Tested r cut x b → T (holds r cut x)
+    tested-holds e (Tested.true t) = t
+    tested-holds e (Tested.localFalse i v o x a h n) = absurd (let z : _≡_ {A = ℕ} 0 1 = cc in omega arith)
+    tested-holds e (Tested.sender i t a h n w) = absurd (let z : _≡_ {A = ℕ} 0 1 = cc in omega arith)
+    tested-holds e (Tested.receiver i t a h n w) = absurd (let z : _≡_ {A = ℕ} 0 1 = cc in omega arith)
+
+    -- all clauses hold: the clocks decide
+    pub moved-clocks : (b : Behind) → b ≡ tooLow (clockIn ks) cut → ((j : ℕ) → j < k → T (holds r cut (clauseAt c (getD qs j 0)))) → Moved s c ks cut b
+    unfolding Under Moves
+    moved-clocks Nobody e w = nobody (every-clause w) (nobody-by-clock (clockIn ks) cut r (g .tables .clocks) is (sym e))
+    moved-clocks (Process p) e w =
+        let (j, l) = too-low-found (clockIn ks) cut p (sym e) in
+        process p (omega (arith, l .process, is .size))
+        (clock-moves r (clausesFor s c) linear cut low (clockIn ks) (g .tables .clocks) is p j (omega (arith, l .process, is .size)) (omega (arith, l .other, is .size)) (l .apart) (l .low))
+
+    pub in-table : InTable cut
+    in-table = cut-in-table (g .tables) cut is
+
+  -- ---- the elimination
+
+  pub search-start : (cut : List ℕ) → cut ≡ replicate (processes r) 1 → IsCut r cut × Lowest r (clausesFor s c) cut
+  unfolding Under
+  search-start cut e = subst (λ x. IsCut r x × Lowest r (clausesFor s c) x) (sym e) (ones-cut r (g .tables .known), ones-under r (g .tables .known) (clausesFor s c))
+
+  module _ (cut : List ℕ) (is : IsCut r cut) (low : Lowest r (clausesFor s c) cut) where
+    pub search-found : {b : Behind} → b ≡ Nobody → Moved s c ks cut b → Searched s c cut A.Found
+    unfolding Under
+    search-found e (nobody w v) = found (arrive r (clausesFor s c) cut low (all-tested r (clockIn ks) (clausesFor s c) cut (g .tables .clocks) is v w))
+    search-found e (process p h m) = absurd (let z : _≡_ {A = ℕ} 0 1 = cc in omega arith)
+
+    pub moved-process : {b : Behind} {p : ℕ} → b ≡ Process p → Moved s c ks cut b → (p < processes r) × MustMove r (clausesFor s c) cut p
+    moved-process e (nobody w v) = absurd (let z : _≡_ {A = ℕ} 0 1 = cc in omega arith)
+    moved-process {p = p} e (process q h m) = let same : q ≡ p = cc in subst (λ p. (p < processes r) × MustMove r (clausesFor s c) cut p) same (h, m)
+
+    module _ (p : ℕ) (h : p < processes r) (m : MustMove r (clausesFor s c) cut p) where
+      -- a history that runs out
+      pub search-nowhere : count r p ≤ at cut p → Searched s c cut A.Nowhere
+      unfolding Moves
+      search-nowhere l = nowhere (run-out r (clausesFor s c) cut p h l m)
+
+      -- a move
+      pub search-move : at cut p < count r p → IsCut r (set cut p (at cut p + 1)) × Lowest r (clausesFor s c) (set cut p (at cut p + 1))
+      unfolding Under Moves
+      search-move l = rw add-one (
+        record {
+          size = length-set cut p (suc (at cut p)) ∙ is .size;
+          states = λ i g. elim (ℕ-discrete i p) [
+            | yes e ↦ subst (λ i. IsState r i (at (set cut p (suc (at cut p))) i)) (sym e) (subst (IsState r p) (sym (getD-set-same cut p (suc (at cut p)) 0 (omega (arith, is .size))))
+                (record { counted = omega arith; there = l }))
+            | no n ↦ subst (IsState r i) (sym (getD-set-other cut p i (suc (at cut p)) 0 n)) (is .states i g)
+          ];
+        },
+        move-on r (clausesFor s c) cut p (omega (arith, is .size)) low m,
+      )
+
+-- ---- the measure: what the chosen numbers add up to
+
+abbrev pub total : List ℕ → ℕ
+total [] = 0
+total (x ∷ l) = x + total l
+
+pub total-set : (l : List ℕ) (i : ℕ) → i < length l → total (set l i (getD l i 0 + 1)) ≡ total l + 1
+total-set [] i h = absurd (omega arith)
+total-set (x ∷ l) zero h = omega arith
+total-set (x ∷ l) (suc i) h = omega (arith, total-set l i (omega arith))
+
+pub total-few : (l : List ℕ) → ((i : ℕ) → i < length l → getD l i 0 ≤ 512) → total l ≤ 512 * length l
+total-few [] w = omega arith
+total-few (x ∷ l) w = omega (arith, w 0 (omega arith), total-few l (λ i h. w (suc i) (omega arith)))

@@ -1,0 +1,57 @@
+-- What the search is given, and what it gives.
+use mathlib.Core.Path.{_≡_}
+use mathlib.Core.List.{List, List·Memᴰ}
+use Prim.Native.Nat.{ℕ, _≤_, _<_}
+use lib.Dec.{T}
+use lib.IntN.{ℤ}
+use lib.ListN.{length, getD}
+use Rattle.model.specs.declared.Mover.the-variants.{Sender, Receiver}
+use Rattle.model.specs.Run.{Run, processes, channel}
+use Rattle.model.specs.Cut.{at, IsCut, ByClock, inTransit}
+use Rattle.model.specs.Clause.{Comparison, Test, mover, Clause, holds, Satisfies, First}
+use Rattle.model.specs.Clause.Clause.{local, on}
+use Rattle.record.specs.Record.{headOf}
+use Rattle.run.specs.Tables.{runIn, clockIn, Tables}
+use Rattle.condition.specs.Read.{placesIn, readOf, clausesIn}
+use Rattle.condition.specs.Read.Verdict.{accepted}
+use Rattle.cut.specs.declared.Behind.{Behind}
+use Rattle.cut.specs.declared.Behind.the-variants.{Nobody, Process}
+use Rattle.search.specs.declared.Answer.{Answer}
+use Rattle.search.specs.declared.Answer.the-variants as A
+
+-- an accepted run with its tables, and an accepted condition with the places of its k clauses
+pub record Given (s c cs ps ns ks qs : List ℕ) (k : ℕ) : Type 0 where
+  pub tables : Tables s cs ps ns ks
+  pub read : readOf c (headOf s) ≡ accepted (placesIn (readOf c (headOf s)))
+  pub counted : k ≡ length (placesIn (readOf c (headOf s)))
+  pub placed : (i : ℕ) → i < k → getD qs i 0 ≡ getD (placesIn (readOf c (headOf s))) i 0
+  pub long : length qs ≡ 32
+
+-- the condition's clauses
+abbrev pub clausesFor : List ℕ → List ℕ → List Clause
+clausesFor s c = clausesIn c (headOf s)
+
+-- a clause holds at the cut, or is false and names who has to move
+pub data Tested (r : Run) (cut : List ℕ) (k : Clause) : Behind → Type 0 where
+  true : T (holds r cut k) → Tested r cut k Nobody
+  localFalse : (i v : ℕ) (o : Comparison) (x : ℤ) → k ≡ local i v o x → i < processes r → ¬ T (holds r cut k) → Tested r cut k (Process i)
+  sender : (c : ℕ) (t : Test) → k ≡ on c t → channel r c .from < processes r → ¬ T (holds r cut k) → mover t (length (inTransit r cut c)) ≡ Sender → Tested r cut k (Process (channel r c .from))
+  receiver : (c : ℕ) (t : Test) → k ≡ on c t → channel r c .to < processes r → ¬ T (holds r cut k) → mover t (length (inTransit r cut c)) ≡ Receiver → Tested r cut k (Process (channel r c .to))
+
+-- at or below every satisfying cut
+abbrev pub Lowest : Run → List Clause → List ℕ → Type 0
+Lowest r cond cut = (d : List ℕ) → Satisfies r cond d → (i : ℕ) → at cut i ≤ at d i
+
+-- every satisfying cut is further on at process p
+abbrev pub MustMove : Run → List Clause → List ℕ → ℕ → Type 0
+MustMove r cond cut p = (d : List ℕ) → Satisfies r cond d → at cut p < at d p
+
+-- nobody has to move where the cut satisfies
+pub data Moved (s c ks cut : List ℕ) : Behind → Type 0 where
+  nobody : ((k : Clause) → List·Memᴰ k (clausesFor s c) → T (holds (runIn s) cut k)) → ByClock (runIn s) (clockIn ks) cut → Moved s c ks cut Nobody
+  process : (p : ℕ) → p < processes (runIn s) → MustMove (runIn s) (clausesFor s c) cut p → Moved s c ks cut (Process p)
+
+-- found with the first cut, or none satisfies
+pub data Searched (s c cut : List ℕ) : Answer → Type 0 where
+  found : First (runIn s) (clausesFor s c) cut → Searched s c cut A.Found
+  nowhere : ((d : List ℕ) → ¬ Satisfies (runIn s) (clausesFor s c) d) → Searched s c cut A.Nowhere

@@ -1,0 +1,120 @@
+// Who has to move at a cut: named by the first clause that is false, else by the clocks.
+use condition::Clause;
+use condition::Local;
+use condition::Test;
+use condition::clauses::clause_at;
+use condition::movers::who_moves;
+use cut::Behind;
+use cut::clocks::too_low;
+use cut::local::local_holds;
+use cut::tests::test_passes;
+use cut::transit::tally_for;
+use model::Mover;
+use run::states::channel_at;
+ghost use mathlib.Core.Path.{_≡_};
+ghost use mathlib.Core.List.{List·Memᴰ};
+ghost use Prim.Native.Nat.{_≤_, _<_};
+ghost use lib.ListN.{length};
+ghost use Rattle.model.specs.Cut.{IsCut};
+ghost use Rattle.record.specs.Record.{headOf};
+ghost use Rattle.run.specs.Tables.{runIn, Tables};
+ghost use Rattle.condition.specs.Clauses.{clauseOf, clauseAt};
+ghost use Rattle.condition.specs.Known.{LocalKnown, TestKnown, ClauseKnown};
+ghost use Rattle.cut.specs.Lent.{Lent, Placed};
+ghost use Rattle.search.specs.Search.{Given, Tested, Lowest, Moved, clausesFor};
+
+// A local clause names its process.
+fn local_mover(run: &[u8], places: &[u16], cut: &[u16], clause: Local) -> Behind
+    requires { ⌜ Placed (now run) (now places) × IsCut (runIn (now run)) (now cut) × LocalKnown (headOf (now run)) clause ⌝ }
+    ensures { λ r. ⌜ Tested (runIn (now (run .entry))) (now (cut .entry)) (clauseOf (Clause.Local clause)) r ⌝ }
+{
+    let p = clause.process as usize;
+    let k = cut[p];
+    if local_holds(
+        run,
+        places,
+        clause.process,
+        clause.value,
+        k,
+        clause.comparison,
+        clause.constant,
+    ) {
+        return Behind::Nobody;
+    }
+    Behind::Process(p)
+}
+
+// A channel clause names its sender or its receiver.
+fn channel_mover(run: &[u8], places: &[u16], partners: &[u16], cut: &[u16], clause: Test) -> Behind
+    requires { ⌜ Lent (now run) (now places) (now partners) × IsCut (runIn (now run)) (now cut) × TestKnown (headOf (now run)) clause ⌝ }
+    ensures { λ r. ⌜ Tested (runIn (now (run .entry))) (now (cut .entry)) (clauseOf (Clause.Channel clause)) r ⌝ }
+{
+    let ends = channel_at(run, clause.channel);
+    let from = ends.from as usize;
+    let to = ends.to as usize;
+    let tally = tally_for(
+        run,
+        places,
+        partners,
+        clause.channel,
+        ends.from,
+        cut[from],
+        cut[to],
+        clause.test,
+        clause.operand,
+    );
+    if test_passes(clause.test, clause.operand, tally) {
+        return Behind::Nobody;
+    }
+    let mover = who_moves(clause.test, clause.operand, tally.count);
+    match mover {
+        Mover::Sender => Behind::Process(from),
+        Mover::Receiver => Behind::Process(to),
+        Mover::NotLinear => Behind::Process(to),
+    }
+}
+
+// The clause whose record stands at a place.
+fn clause_mover(
+    run: &[u8],
+    places: &[u16],
+    partners: &[u16],
+    cond: &[u8],
+    at: usize,
+    cut: &[u16],
+) -> Behind
+    requires { ⌜ Lent (now run) (now places) (now partners) × IsCut (runIn (now run)) (now cut) × ClauseKnown (now cond) (headOf (now run)) at ⌝ }
+    ensures { λ r. ⌜ Tested (runIn (now (run .entry))) (now (cut .entry)) (clauseAt (now (cond .entry)) at) r ⌝ }
+{
+    let clause = clause_at(cond, at);
+    match clause {
+        Clause::Local(local) => local_mover(run, places, cut, local),
+        Clause::Channel(test) => channel_mover(run, places, partners, cut, test),
+    }
+}
+
+// The first clause that is false names who has to move; where all hold, the clocks do.
+pub fn first_mover(
+    run: &[u8],
+    counts: &[u16],
+    places: &[u16],
+    partners: &[u16],
+    clocks: &[u16],
+    cond: &[u8],
+    clauses: &[u16],
+    k: u16,
+    cut: &[u16],
+) -> Behind
+    requires { ⌜ Given (now run) (now cond) (now counts) (now places) (now partners) (now clocks) (now clauses) k × IsCut (runIn (now run)) (now cut) × Lowest (runIn (now run)) (clausesFor (now run) (now cond)) (now cut) ⌝ }
+    ensures { λ r. ⌜ Moved (now (run .entry)) (now (cond .entry)) (now (clocks .entry)) (now (cut .entry)) r ⌝ }
+{
+    let mut i: usize = 0;
+    while i < k as usize {
+        let named = clause_mover(run, places, partners, cond, clauses[i] as usize, cut);
+        let Behind::Nobody = named else {
+            return named;
+        };
+        i += 1;
+    }
+    too_low(clocks, cut)
+}
