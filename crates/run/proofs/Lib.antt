@@ -9,3 +9,4 @@ pub mod Listed
 pub mod Firsts
 pub mod Pairs
 pub mod Partners
+pub mod Orders
