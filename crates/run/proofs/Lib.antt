@@ -9,4 +9,5 @@ pub mod Listed
 pub mod Firsts
 pub mod Pairs
 pub mod Partners
-pub mod Judging
+pub mod Orders
+pub mod Verdicts

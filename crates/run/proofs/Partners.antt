@@ -40,7 +40,7 @@ module _ (r : Run) (small : Small r) where
   slot-inside : {i k : ℕ} (ns : List ℕ) → length ns ≡ 4096 → IsState r i k → slot i k < length ns
   slot-inside {i} {k} ns long w = omega (arith, small i k w, w .counted, long)
 
-  slot-one : {i k j l : ℕ} → IsState r i k → IsState r j l → slot i k ≡ slot j l → (i ≡ j) × (k ≡ l)
+  pub slot-one : {i k j l : ℕ} → IsState r i k → IsState r j l → slot i k ≡ slot j l → (i ≡ j) × (k ≡ l)
   slot-one {i} {k} {j} {l} w v e =
       let (a, b) = small i k w in
       let (c, d) = small j l v in

@@ -9,7 +9,7 @@ use lib.ListN.{getD}
 use Rattle.model.specs.declared.Message.{Message}
 use Rattle.model.specs.declared.Event.the-variants.{Receive}
 use Rattle.model.specs.Run.{processes, into, IsState, sending, receiving, sameMessage, Paired, Known}
-use Rattle.model.specs.Cut.{AfterCircle, ClockIs}
+use Rattle.model.specs.Cut.{AfterCircle, ClockIs, Clocks}
 use Rattle.record.specs.Bytes.{u16At}
 use Rattle.record.specs.Record.{headOf}
 use Rattle.record.specs.Refusal.{number, refusal}
@@ -23,7 +23,7 @@ use Rattle.run.specs.declared.Reading.the-variants.{Accepted, Refused}
 use Rattle.run.specs.States.{placesOf}
 use Rattle.run.specs.Read.{Verdict, readOf}
 use Rattle.run.specs.Read.Verdict.{refused, accepted}
-use Rattle.run.specs.Tables.{statesOf, runIn, Partnered}
+use Rattle.run.specs.Tables.{statesOf, runIn, Partnered, clockIn}
 
 module _ (s : List ℕ) where
   -- the byte place of state k of process p
@@ -81,3 +81,13 @@ lowerOf (At y) x = cond (ltb x y) (At x) (At y)
 pub data PairingJudged (s ns : List ℕ) : First → Type 0 where
   unpaired : (x : ℕ) → FirstAt s (Unpaired s) x → PairingJudged s ns (At x)
   allPaired : Nowhere s (Unpaired s) → Known (runIn s) → Partnered (runIn s) ns → PairingJudged s ns Nothing
+
+-- what the order gives: the first state that is on a circle or after one, or that there is none, and the clocks
+pub data CircleJudged (s ks : List ℕ) : First → Type 0 where
+  circular : (x : ℕ) → FirstAt s (Circular s) x → CircleJudged s ks (At x)
+  noCircle : Nowhere s (Circular s) → Clocks (runIn s) (clockIn ks) → CircleJudged s ks Nothing
+
+-- what comparing the clocks gives
+pub data ClockJudged (s : List ℕ) : First → Type 0 where
+  wrongClock : (x : ℕ) → FirstAt s (WrongClock s) x → ClockJudged s (At x)
+  allRight : Nowhere s (WrongClock s) → ClockJudged s Nothing

@@ -4,4 +4,5 @@ pub mod Read
 pub mod Tables
 pub mod Judged
 pub mod Pairing
+pub mod Order
 pub mod Inner

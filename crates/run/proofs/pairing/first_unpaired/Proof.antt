@@ -8,7 +8,7 @@ use Rattle.run.specs.Tables.{runIn}
 use Rattle.run.specs.Judged.{Earliest}
 use Rattle.run.specs.Pairing.{Rows}
 use Rattle.run.proofs.Listed.{listed-places}
-use Rattle.run.proofs.Judging.{pairing-judged, rows-there}
+use Rattle.run.proofs.Verdicts.{pairing-judged, rows-there}
 use Rattle.run.proofs.pairing.first_unpaired.Statement.{statement}
 use Rattle.run.proofs.pairing.first_unpaired.Tie as tie
 

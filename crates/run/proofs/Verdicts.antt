@@ -1,14 +1,16 @@
--- What the pairing tells of the whole run: faults are the paper's, and where there is none the run is known and its partners are right.
+-- What the pairing and the order tell of the whole run: faults are the paper's, and where there is none the run is known, with its partners and its clocks.
 use mathlib.Core.Path.{_≡_, refl, sym, ap, _∙_, subst}
 use mathlib.Core.Logic.{_⊎_, inl, inr, ⊎-elim, _≢_}
-use mathlib.Core.Bool.{Bool, true, false, _&&_}
+use mathlib.Core.Bool.{Bool, true, false, cond, _&&_}
 use mathlib.Core.List.{List}
 use mathlib.Core.Option.{Option, some, none}
 use Prim.Native.Nat.{ℕ, zero, suc, _+_, _-_, _*_, _≤_, _<_}
 use native.Mathlib.Nat.{eq-or-lt-of-le}
 use native.Mathlib.Decide.{ℕ-discrete}
 use native.Mathlib.Omega.{arith}
-use lib.Dec.{T, eqb, eqb→eq}
+use borrow.Author.Tests.{ltb-true, ltb-false}
+use lib.Dec.{T, eqb, ltb, eqb→eq}
+use Rattle.model.specs.Cut.{Clocks}
 use lib.ListN.{length, getD}
 use Rattle.model.specs.declared.Message.{Message}
 use Rattle.model.specs.declared.Event.{Event}
@@ -22,13 +24,16 @@ use Rattle.run.specs.declared.First.{First}
 use Rattle.run.specs.declared.First.the-variants.{Nothing, At}
 use Rattle.run.specs.Read.{readOf}
 use Rattle.run.specs.Read.Verdict.{accepted}
-use Rattle.run.specs.Tables.{statesOf, runIn, slot, Partnered}
-use Rattle.run.specs.Judged.{placeOf, Unpaired, FirstAt, Nowhere, Earliest, PairingJudged}
+use Rattle.run.specs.Tables.{statesOf, runIn, slot, Partnered, Listed}
+use Rattle.run.specs.Judged.{placeOf, Unpaired, FirstAt, Nowhere, Earliest, PairingJudged, Circular, CircleJudged}
+use Rattle.run.specs.Judged.CircleJudged.{circular, noCircle}
+use Rattle.run.specs.Order.{Ordered}
+use Rattle.run.specs.Inner.{nextOf, Undone}
 use Rattle.run.specs.Judged.Unpaired.{secondSend, secondReceive, noSend}
 use Rattle.run.specs.Judged.PairingJudged.{unpaired, allPaired}
 use Rattle.run.specs.Pairing.{which, Clear, Faulty, Backed, Met, Rows}
 use Rattle.run.specs.Pairing.Faulty.{again, alone}
-use Rattle.run.proofs.Listed.{sides, process-of, processes-are, place-rises}
+use Rattle.run.proofs.Listed.{sides, process-of, place-rises, listed-count}
 use Rattle.run.proofs.Firsts.{Firsts, none-bad, first-none, first-at}
 
 -- two messages that are the same have one channel and one number
@@ -180,3 +185,41 @@ module _ (s : List ℕ) (read : readOf s ≡ accepted (statesOf s)) where
 
     pub rows-there : (p : ℕ) → p < headOf s .processes → getD bad p 0 ≢ 0 → IsState r p (getD bad p 0)
     rows-there p h n = w .faulty p h n .0
+
+-- ---- circles: the first state of each process that isn't done
+
+next-cases : (d n : ℕ) → ((d < n) × (nextOf d n ≡ d + 1)) ⊎ ((n ≤ d) × (nextOf d n ≡ 0))
+unfolding nextOf
+next-cases d n = go (ltb d n) refl
+  where
+    go : (t : Bool) → ltb d n ≡ t → ((d < n) × (cond t (d + 1) 0 ≡ d + 1)) ⊎ ((n ≤ d) × (cond t (d + 1) 0 ≡ 0))
+    go true e = inl (ltb-true d n e, refl)
+    go false e = inr (ltb-false d n e, refl)
+
+module _ (s cs ps done ks bad : List ℕ) (w : Listed s cs ps) (o : Ordered s done ks) (u : Undone (headOf s .processes) cs done bad) where
+  bad-is : (p : ℕ) → p < headOf s .processes → ((getD done p 0 < count (runIn s) p) × (getD bad p 0 ≡ getD done p 0 + 1)) ⊎ ((count (runIn s) p ≤ getD done p 0) × (getD bad p 0 ≡ 0))
+  bad-is p h =
+      let e = listed-count s cs ps w p h in
+      ⊎-elim (λ x. inl (omega (arith, x .0, e), u .next p h ∙ x .1)) (λ x. inr (omega (arith, x .0, e), u .next p h ∙ x .1)) (next-cases (getD done p 0) (getD cs p 0))
+
+  pub circle-firsts : Firsts s (Circular s) bad
+  circle-firsts = record {
+    there = λ p h n. there p h n;
+    fault = λ p h n. o .caught p (getD bad p 0) (there p h n) (⊎-elim (λ x. omega (arith, x .1)) (λ x. absurd (n (x .1))) (bad-is p h));
+    first = λ p k h t g. o .clear p k t (⊎-elim
+        (λ x. ⊎-elim (λ z. absurd (omega (arith, x .1))) (λ z. omega (arith, x .1)) g)
+        (λ x. omega (arith, t .there, x .0))
+        (bad-is p h));
+  }
+    where
+      there : (p : ℕ) → p < headOf s .processes → getD bad p 0 ≢ 0 → IsState (runIn s) p (getD bad p 0)
+      there p h n = ⊎-elim (λ x. record { counted = omega (arith, x .1); there = omega (arith, x .0, x .1) }) (λ x. absurd (n (x .1))) (bad-is p h)
+
+  pub circle-judged : (f : First) → Earliest s (headOf s .processes) bad f → CircleJudged s ks f
+  unfolding Clocks
+  circle-judged Nothing e = noCircle (first-none s (w .read) (Circular s) bad circle-firsts e)
+      (λ j l i t h. o .clocks j l i t (⊎-elim
+      (λ x. absurd (omega (arith, x .1, none-bad e j (process-of s (w .read) t))))
+      (λ x. omega (arith, t .there, x .0))
+      (bad-is j (process-of s (w .read) t))) h)
+  circle-judged (At x) e = circular x (first-at s (w .read) (Circular s) bad circle-firsts x e)

@@ -1,0 +1,59 @@
+// The judging of a whole run: the pass, then 11, 12 and 13 over all records, each at its first record in file order.
+use crate::First;
+use crate::Reading;
+use crate::faults::earliest;
+use crate::order::order_all;
+use crate::pairing::first_unpaired;
+use crate::pass::read_run;
+use record::File;
+use record::reasons::CIRCLE;
+use record::reasons::CLOCK;
+use record::reasons::PAIRING;
+use record::reasons::refusal_of;
+ghost use mathlib.Core.Path.{_≡_};
+ghost use Prim.Native.Nat.{ℕ, _+_, _≤_, _<_};
+ghost use lib.ListN.{length, getD};
+ghost use Rattle.model.specs.Run.{Known};
+ghost use Rattle.record.specs.Record.{headOf};
+ghost use Rattle.run.specs.Tables.{runIn, Partnered, Listed};
+ghost use Rattle.run.specs.Judged.{CircleJudged};
+ghost use Rattle.run.specs.Inner.{nextOf, Undone};
+
+// The state behind the last one that is done, or 0 where all are.
+fn next_of(done: u16, count: u16) -> u16
+    requires { ⌜ count ≤ 512 ⌝ }
+    ensures { λ r. ⌜ r ≡ nextOf done count ⌝ }
+{
+    if done < count { done + 1 } else { 0 }
+}
+
+// Of each process the first state that isn't done, or 0.
+fn undone(counts: &[u16], done: &[u16], bad: &mut [u16], n: u16)
+    requires { ⌜ (length (now counts) ≡ 8) × (length (now done) ≡ 8) × (length (now bad) ≡ 8) × (n ≤ 8) × ((p : ℕ) → p < n → getD (now counts) p 0 ≤ 512) ⌝ }
+    ensures { λ _. ⌜ Undone n (now (counts .entry)) (now (done .entry)) (now (bad .exit)) ⌝ }
+{
+    let mut p: usize = 0;
+    while p < n as usize {
+        bad[p] = next_of(done[p], counts[p]);
+        p += 1;
+    }
+}
+
+// The first record in file order whose state is on a circle or after one; where there is none, the clocks.
+pub fn first_circular(
+    run: &[u8],
+    counts: &[u16],
+    places: &[u16],
+    partners: &[u16],
+    clocks: &mut [u16],
+    n: u16,
+) -> First
+    requires { ⌜ Listed (now run) (now counts) (now places) × Known (runIn (now run)) × Partnered (runIn (now run)) (now partners) × (length (now partners) ≡ 4096) × (length (now clocks) ≡ 32768) × (n ≡ headOf (now run) .processes) ⌝ }
+    ensures { λ r. ⌜ CircleJudged (now (run .entry)) (now (clocks .exit)) r ⌝ }
+{
+    let mut done = [0u16; 8];
+    order_all(run, counts, places, partners, clocks, &mut done, n);
+    let mut bad = [0u16; 8];
+    undone(counts, &done, &mut bad, n);
+    earliest(run, places, &bad, n)
+}

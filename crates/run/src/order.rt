@@ -1,0 +1,162 @@
+// 12: which states come after a circle, and the clocks of all others. A state is done when the state before it is, and at a receive the state ahead of the send.
+use crate::Ahead;
+use crate::states::channel_at;
+use crate::states::state_at;
+use model::Event;
+ghost use mathlib.Core.Path.{_≡_};
+ghost use mathlib.Core.Logic.{_≢_};
+ghost use Prim.Native.Nat.{_≤_, _<_, max};
+ghost use lib.ListN.{length, replicate};
+ghost use Rattle.model.specs.Run.{IsState, Known};
+ghost use Rattle.record.specs.Record.{headOf};
+ghost use Rattle.run.specs.Tables.{runIn, Partnered, Placed, Listed};
+ghost use Rattle.run.specs.Order.{AheadIs, numberAt, numberOf, Written, Sound, Advanced, Swept, Ordered};
+
+// The state ahead of the send that state k of process p receives.
+fn ahead_of(run: &[u8], places: &[u16], partners: &[u16], p: u16, k: u16) -> Ahead
+    requires { ⌜ Placed (now run) (now places) × Known (runIn (now run)) × Partnered (runIn (now run)) (now partners) × (length (now partners) ≡ 4096) × IsState (runIn (now run)) p k ⌝ }
+    ensures { λ r. ⌜ AheadIs (runIn (now (run .entry))) p k (r .process) (r .state) ⌝ }
+{
+    let slot = 512 * (p as usize) + (k as usize - 1);
+    let state = state_at(run, places[slot] as usize);
+    let event = state.event;
+    match event {
+        Event::Start => Ahead {
+            process: 0,
+            state: 0,
+        },
+        Event::Internal => Ahead {
+            process: 0,
+            state: 0,
+        },
+        Event::Send(_) => Ahead {
+            process: 0,
+            state: 0,
+        },
+        Event::Receive(m) => {
+            let process = channel_at(run, m.channel).from;
+            Ahead {
+                process,
+                state: partners[slot] - 1,
+            }
+        }
+    }
+}
+
+fn larger(a: u16, b: u16) -> u16
+    ensures { λ r. ⌜ r ≡ max a b ⌝ }
+{
+    if a < b { b } else { a }
+}
+
+// Place i of the clock of state k of process p, 0 where k is 0.
+fn number_at(clocks: &[u16], p: u16, k: u16, i: u16) -> u16
+    requires { ⌜ (length (now clocks) ≡ 32768) × (p < 8) × (k ≤ 512) × (i < 8) ⌝ }
+    ensures { λ r. ⌜ r ≡ numberAt (now (clocks .entry)) p k i ⌝ }
+{
+    if k == 0 {
+        return 0;
+    }
+    let entry = 8 * (512 * (p as usize) + (k as usize - 1)) + i as usize;
+    clocks[entry]
+}
+
+// Place i of the clock of state k of process p, by the rule.
+fn number_of(clocks: &[u16], p: u16, k: u16, ahead: Ahead, i: u16) -> u16
+    requires { ⌜ (length (now clocks) ≡ 32768) × (p < 8) × (1 ≤ k) × (k ≤ 512) × (ahead .process < 8) × (ahead .state ≤ 512) × (i < 8) ⌝ }
+    ensures { λ r. ⌜ r ≡ numberOf (now (clocks .entry)) p k (ahead .process) (ahead .state) i ⌝ }
+{
+    if i == p {
+        return k;
+    }
+    let own = number_at(clocks, p, k - 1, i);
+    let other = number_at(clocks, ahead.process, ahead.state, i);
+    larger(own, other)
+}
+
+// Writes the clock of state k of process p, n numbers.
+fn clock_row(clocks: &mut [u16], n: u16, p: u16, k: u16, ahead: Ahead)
+    requires { ⌜ (length (now clocks) ≡ 32768) × (n ≤ 8) × (p < 8) × (1 ≤ k) × (k ≤ 512) × (ahead .process < 8) × (ahead .state ≤ 512) × (ahead .state ≢ 0 → ahead .process ≢ p) ⌝ }
+    ensures { λ _. ⌜ Written n p k (ahead .process) (ahead .state) (now (clocks .entry)) (now (clocks .exit)) ⌝ }
+{
+    let row = 8 * (512 * (p as usize) + (k as usize - 1));
+    let mut i: u16 = 0;
+    while i < n {
+        let number = number_of(clocks, p, k, ahead, i);
+        let entry = row + i as usize;
+        clocks[entry] = number;
+        i += 1;
+    }
+}
+
+// Does the next state of process p if it can; whether it did.
+fn advance(
+    run: &[u8],
+    counts: &[u16],
+    places: &[u16],
+    partners: &[u16],
+    clocks: &mut [u16],
+    done: &mut [u16],
+    n: u16,
+    p: u16,
+) -> bool
+    requires { ⌜ Listed (now run) (now counts) (now places) × Known (runIn (now run)) × Partnered (runIn (now run)) (now partners) × (length (now partners) ≡ 4096) × (length (now clocks) ≡ 32768) × (length (now done) ≡ 8) × (n ≡ headOf (now run) .processes) × (p < n) × Sound (runIn (now run)) (now done) (now clocks) ⌝ }
+    ensures { λ r. ⌜ Advanced (runIn (now (run .entry))) p (now (done .entry)) (now (done .exit)) (now (clocks .exit)) r ⌝ }
+{
+    let row = p as usize;
+    let k = done[row];
+    if counts[row] <= k {
+        return false;
+    }
+    let ahead = ahead_of(run, places, partners, p, k + 1);
+    let other = ahead.process as usize;
+    if done[other] < ahead.state {
+        return false;
+    }
+    clock_row(clocks, n, p, k + 1, ahead);
+    done[row] = k + 1;
+    true
+}
+
+// A turn for each process; whether any went on.
+fn sweep(
+    run: &[u8],
+    counts: &[u16],
+    places: &[u16],
+    partners: &[u16],
+    clocks: &mut [u16],
+    done: &mut [u16],
+    n: u16,
+) -> bool
+    requires { ⌜ Listed (now run) (now counts) (now places) × Known (runIn (now run)) × Partnered (runIn (now run)) (now partners) × (length (now partners) ≡ 4096) × (length (now clocks) ≡ 32768) × (length (now done) ≡ 8) × (n ≡ headOf (now run) .processes) × Sound (runIn (now run)) (now done) (now clocks) ⌝ }
+    ensures { λ r. ⌜ Swept (runIn (now (run .entry))) n (now (done .entry)) (now (done .exit)) (now (clocks .exit)) r ⌝ }
+{
+    let mut moved = false;
+    let mut p: u16 = 0;
+    while p < n {
+        let more = advance(run, counts, places, partners, clocks, done, n, p);
+        moved = moved | more;
+        p += 1;
+    }
+    moved
+}
+
+// How many states of each process are clear of circles, into `done`, and their clocks.
+pub fn order_all(
+    run: &[u8],
+    counts: &[u16],
+    places: &[u16],
+    partners: &[u16],
+    clocks: &mut [u16],
+    done: &mut [u16],
+    n: u16,
+)
+    requires { ⌜ Listed (now run) (now counts) (now places) × Known (runIn (now run)) × Partnered (runIn (now run)) (now partners) × (length (now partners) ≡ 4096) × (length (now clocks) ≡ 32768) × (now done ≡ replicate 8 0) × (n ≡ headOf (now run) .processes) ⌝ }
+    ensures { λ _. ⌜ Ordered (now (run .entry)) (now (done .exit)) (now (clocks .exit)) ⌝ }
+{
+    loop {
+        if !sweep(run, counts, places, partners, clocks, done, n) {
+            break;
+        }
+    }
+}
