@@ -10,25 +10,25 @@ use native.Mathlib.Decide.{ℕ-discrete}
 use native.Mathlib.Omega.{arith}
 use borrow.Author.Tests.{eq-eqb, ne-eqb}
 use lib.Dec.{eqb}
-use lib.ListN.{length, getD, set, replicate, length-set, getD-replicate, length-replicate, List·getD-eq-default}
+use lib.ListN.{length, getD, set, replicate, getD-replicate, length-replicate, List·getD-eq-default}
 use lib.Seq.{getD-set-same, getD-set-other}
 use Rattle.model.specs.declared.Message.{Message}
 use Rattle.model.specs.declared.Event.the-variants.{Receive}
 use Rattle.model.specs.Run.{Run, into, channel, count, processes, IsState, Paired, Known}
 use Rattle.model.specs.Cut.{AfterCircle, ClockIs, Clocks}
 use Rattle.model.proofs.Lists.{le-or-lt}
-use Rattle.model.proofs.Pairing.{view, sent-there, received-there, process-there, send-start, receive-start, first-start, from-end, apart, one-send}
+use Rattle.model.proofs.Pairing.{view, sent-there, process-there, send-start, receive-start, first-start, from-end, apart, one-send}
 use Rattle.model.proofs.Order.{clock-unique}
 use Rattle.model.proofs.Circle.{Direct, clear, waiting-circle}
 use Rattle.model.proofs.Clock.{clock-own, clock-first, clock-step, clock-receive}
 use Rattle.record.specs.Bytes.{u16At}
 use Rattle.record.specs.Record.{headOf}
 use Rattle.run.specs.Judged.{placeOf}
-use Rattle.run.specs.Tables.{runIn, slot, clockIn, Partnered, Listed}
+use Rattle.run.specs.Tables.{runIn, slot, clockIn, Partnered}
 use Rattle.run.specs.Order.{AheadIs, numberAt, numberOf, Written, Sound, Waits, Advanced, total, Swept, Ordered, Compared, FirstOf, FirstsTo}
 use Rattle.run.specs.Order.AheadIs.{nothing, sent}
 use Rattle.run.proofs.Firsts.{Firsts}
-use Rattle.run.proofs.Partners.{Small, small-run, slot-one}
+use Rattle.run.proofs.Partners.{Small, slot-one}
 
 -- ---- the state ahead of the send
 
