@@ -10,20 +10,25 @@ use native.Mathlib.Decide.{ℕ-discrete}
 use native.Mathlib.Omega.{arith}
 use borrow.Author.Tests.{eq-eqb, ne-eqb}
 use lib.Dec.{eqb}
-use lib.ListN.{length, getD, set, replicate, length-set, getD-replicate, length-replicate, List·getD-eq-default}
+use lib.ListN.{length, getD, set, replicate, getD-replicate, length-replicate, List·getD-eq-default}
 use lib.Seq.{getD-set-same, getD-set-other}
 use Rattle.model.specs.declared.Message.{Message}
 use Rattle.model.specs.declared.Event.the-variants.{Receive}
 use Rattle.model.specs.Run.{Run, into, channel, count, processes, IsState, Paired, Known}
-use Rattle.model.specs.Cut.{AfterCircle, ClockIs}
+use Rattle.model.specs.Cut.{AfterCircle, ClockIs, Clocks}
 use Rattle.model.proofs.Lists.{le-or-lt}
-use Rattle.model.proofs.Pairing.{view, sent-there, received-there, process-there, send-start, receive-start, first-start, from-end, apart, one-send}
+use Rattle.model.proofs.Pairing.{view, sent-there, process-there, send-start, receive-start, first-start, from-end, apart, one-send}
+use Rattle.model.proofs.Order.{clock-unique}
 use Rattle.model.proofs.Circle.{Direct, clear, waiting-circle}
 use Rattle.model.proofs.Clock.{clock-own, clock-first, clock-step, clock-receive}
-use Rattle.run.specs.Tables.{runIn, slot, clockIn, Partnered, Listed}
-use Rattle.run.specs.Order.{AheadIs, numberAt, numberOf, Written, Sound, Waits, Advanced, total, Swept, Ordered}
+use Rattle.record.specs.Bytes.{u16At}
+use Rattle.record.specs.Record.{headOf}
+use Rattle.run.specs.Judged.{placeOf}
+use Rattle.run.specs.Tables.{runIn, slot, clockIn, Partnered}
+use Rattle.run.specs.Order.{AheadIs, numberAt, numberOf, Written, Sound, Waits, Advanced, total, Swept, Ordered, Compared, FirstOf, FirstsTo}
 use Rattle.run.specs.Order.AheadIs.{nothing, sent}
-use Rattle.run.proofs.Partners.{Small, small-run, slot-one}
+use Rattle.run.proofs.Firsts.{Firsts}
+use Rattle.run.proofs.Partners.{Small, slot-one}
 
 -- ---- the state ahead of the send
 
@@ -308,3 +313,60 @@ ordered s n done done′ ks b e w t = record {
   where
     there : (j : ℕ) → getD done′ j 0 < count (runIn s) j → IsState (runIn s) j (suc (getD done′ j 0))
     there j g = record { counted = omega arith; there = g }
+
+-- ---- clocks other than the table's
+
+module _ (s ks : List ℕ) (right : Clocks (runIn s) (clockIn ks)) (p k q : ℕ) (place : q ≡ placeOf s p k) (t : IsState (runIn s) p k) where
+  abbrev recorded : ℕ → ℕ
+  recorded x = u16At s (q + 34 + 2 * x)
+
+  same-place : (x : ℕ) → recorded x ≡ u16At s (placeOf s p k + 34 + 2 * x)
+  same-place x = ap (λ q. u16At s (q + 34 + 2 * x)) place
+
+  pub compared-differs : (x y : ℕ) → x < processes (runIn s) → y ≡ recorded x → y ≢ clockIn ks p k x → Compared s p k true
+  unfolding Clocks
+  compared-differs x y h e n = record {
+    differs = λ z. record { place = x; there = h; wrong = λ c. n (e ∙ same-place x ∙ clock-unique c (right p k x t h)) };
+    agrees = λ z. absurd (let z : _≡_ {A = ℕ} 0 1 = cc in omega arith);
+  }
+
+  pub compared-agrees : (n : ℕ) → n ≡ processes (runIn s) → ((x : ℕ) → x < n → recorded x ≡ clockIn ks p k x) → Compared s p k false
+  unfolding Clocks
+  compared-agrees n e w = record {
+    differs = λ z. absurd (let z : _≡_ {A = ℕ} 0 1 = cc in omega arith);
+    agrees = λ z v. v .wrong (subst (ClockIs (runIn s) p k (v .place)) (sym (w (v .place) (omega (arith, e, v .there))) ∙ same-place (v .place)) (right p k (v .place) t (v .there)));
+  }
+
+module _ (s : List ℕ) (Fault : ℕ → ℕ → Type 0) where
+  pub first-of-here : (p k : ℕ) → IsState (runIn s) p k → Fault p k → ((l : ℕ) → IsState (runIn s) p l → l < k → ¬ Fault p l) → FirstOf s Fault p k
+  first-of-here p k t f w = record { there = λ n. t; fault = λ n. f; first = λ l u h. ⊎-elim (λ z. absurd (omega (arith, t .counted))) (w l u) h }
+
+  pub first-of-none : (p k : ℕ) → count (runIn s) p < k → ((l : ℕ) → IsState (runIn s) p l → l < k → ¬ Fault p l) → FirstOf s Fault p 0
+  first-of-none p k h w = record { there = λ n. absurd (n refl); fault = λ n. absurd (n refl); first = λ l u z. w l u (omega (arith, u .there)) }
+
+  pub none-next : (p k : ℕ) → ¬ Fault p k → ((l : ℕ) → IsState (runIn s) p l → l < k → ¬ Fault p l) → (l : ℕ) → IsState (runIn s) p l → l < k + 1 → ¬ Fault p l
+  none-next p k n w l u h = ⊎-elim (λ e. subst (λ l. ¬ Fault p l) (sym e) n) (w l u) (eq-or-lt-of-le (less h))
+    where
+      less : l < k + 1 → l ≤ k
+      less h = omega arith
+
+  pub firsts-start : (bad : List ℕ) → FirstsTo s Fault 0 bad
+  firsts-start bad = record { each = λ p h. absurd (omega arith) }
+
+  pub firsts-next : (n k : ℕ) (bad : List ℕ) → n < length bad → FirstsTo s Fault n bad → FirstOf s Fault n k → FirstsTo s Fault (n + 1) (set bad n k)
+  firsts-next n k bad inside w v = record {
+    each = λ p h. ⊎-elim
+        (λ e. subst (λ p. FirstOf s Fault p (getD (set bad n k) p 0)) (sym e) (subst (FirstOf s Fault n) (sym (getD-set-same bad n k 0 inside)) v))
+        (λ g. subst (FirstOf s Fault p) (sym (getD-set-other bad n p k 0 (λ e. absurd (omega arith)))) (w .each p g))
+        (eq-or-lt-of-le (less p h));
+  }
+    where
+      less : (p : ℕ) → p < n + 1 → p ≤ n
+      less p h = omega arith
+
+  pub firsts-all : (n : ℕ) (bad : List ℕ) → n ≡ headOf s .processes → FirstsTo s Fault n bad → Firsts s Fault bad
+  firsts-all n bad e w = record {
+    there = λ p h. w .each p (omega (arith, e)) .there;
+    fault = λ p h. w .each p (omega (arith, e)) .fault;
+    first = λ p k h. w .each p (omega (arith, e)) .first k;
+  }

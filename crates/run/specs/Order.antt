@@ -3,7 +3,7 @@ use mathlib.Core.Path.{_≡_}
 use mathlib.Core.Logic.{_⊎_, _≢_}
 use mathlib.Core.Bool.{Bool, true, false, cond}
 use mathlib.Core.List.{List, [], _∷_}
-use Prim.Native.Nat.{ℕ, zero, suc, _+_, _-_, _*_, _≤_, _<_, max}
+use Prim.Native.Nat.{ℕ, suc, _+_, _-_, _*_, _≤_, _<_, max}
 use lib.Dec.{eqb}
 use lib.ListN.{getD, set}
 use Rattle.model.specs.declared.Message.{Message}
@@ -11,6 +11,7 @@ use Rattle.model.specs.declared.Event.the-variants.{Receive}
 use Rattle.model.specs.Run.{Run, count, processes, into, IsState, Paired}
 use Rattle.model.specs.Cut.{AfterCircle, ClockIs}
 use Rattle.run.specs.Tables.{runIn, slot, clockIn}
+use Rattle.run.specs.Judged.{WrongClock}
 
 -- states 1 to done p of each process p are clear of circles with their clocks, and all others are on a circle or after one
 pub record Ordered (s done ks : List ℕ) : Type 0 where
@@ -65,3 +66,20 @@ pub record Swept (r : Run) (n : ℕ) (done done′ clocks′ : List ℕ) (answer
   pub more : total done ≤ total done′
   pub moved : answer ≡ true → total done < total done′
   pub waits : answer ≡ false → (p : ℕ) → p < n → Waits r done′ p
+
+-- ---- 13, by the table of clocks
+
+-- whether a recorded clock number is other than the rule's
+pub record Compared (s : List ℕ) (p k : ℕ) (answer : Bool) : Type 0 where
+  pub differs : answer ≡ true → WrongClock s p k
+  pub agrees : answer ≡ false → ¬ WrongClock s p k
+
+-- k is the first state of process p that has the fault, or 0 where none has
+pub record FirstOf (s : List ℕ) (Fault : ℕ → ℕ → Type 0) (p k : ℕ) : Type 0 where
+  pub there : k ≢ 0 → IsState (runIn s) p k
+  pub fault : k ≢ 0 → Fault p k
+  pub first : (l : ℕ) → IsState (runIn s) p l → (k ≡ 0) ⊎ (l < k) → ¬ Fault p l
+
+-- of each of processes 0 to n - 1
+pub record FirstsTo (s : List ℕ) (Fault : ℕ → ℕ → Type 0) (n : ℕ) (bad : List ℕ) : Type 0 where
+  pub each : (p : ℕ) → p < n → FirstOf s Fault p (getD bad p 0)

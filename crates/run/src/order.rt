@@ -1,16 +1,19 @@
-// 12: which states come after a circle, and the clocks of all others. A state is done when the state before it is, and at a receive the state ahead of the send.
+// 12 and 13: which states come after a circle, the clocks of all others, and which records have another. A state is done when the state before it is, and at a receive the state ahead of the send.
 use crate::Ahead;
 use crate::states::channel_at;
 use crate::states::state_at;
 use model::Event;
+use record::bytes::u16_at;
 ghost use mathlib.Core.Path.{_≡_};
 ghost use mathlib.Core.Logic.{_≢_};
 ghost use Prim.Native.Nat.{_≤_, _<_, max};
 ghost use lib.ListN.{length, replicate};
 ghost use Rattle.model.specs.Run.{IsState, Known};
+ghost use Rattle.model.specs.Cut.{Clocks};
 ghost use Rattle.record.specs.Record.{headOf};
-ghost use Rattle.run.specs.Tables.{runIn, Partnered, Placed, Listed};
-ghost use Rattle.run.specs.Order.{AheadIs, numberAt, numberOf, Written, Sound, Advanced, Swept, Ordered};
+ghost use Rattle.run.specs.Tables.{runIn, clockIn, Partnered, Placed, Listed};
+ghost use Rattle.run.specs.Order.{AheadIs, numberAt, numberOf, Written, Sound, Advanced, Swept, Ordered, Compared, FirstOf, FirstsTo};
+ghost use Rattle.run.specs.Judged.{WrongClock};
 
 // The state ahead of the send that state k of process p receives.
 fn ahead_of(run: &[u8], places: &[u16], partners: &[u16], p: u16, k: u16) -> Ahead
@@ -158,5 +161,62 @@ pub fn order_all(
         if !sweep(run, counts, places, partners, clocks, done, n) {
             break;
         }
+    }
+}
+
+// Whether the record of state k of process p has a clock number other than the table's.
+fn differs(run: &[u8], places: &[u16], clocks: &[u16], n: u16, p: u16, k: u16) -> bool
+    requires { ⌜ Placed (now run) (now places) × Clocks (runIn (now run)) (clockIn (now clocks)) × (length (now clocks) ≡ 32768) × (n ≡ headOf (now run) .processes) × IsState (runIn (now run)) p k ⌝ }
+    ensures { λ r. ⌜ Compared (now (run .entry)) p k r ⌝ }
+{
+    let slot = 512 * (p as usize) + (k as usize - 1);
+    let row = 8 * slot;
+    let at = places[slot] as usize + 34;
+    let mut i: u16 = 0;
+    while i < n {
+        let x = i as usize;
+        if u16_at(run, at + 2 * x) != clocks[row + x] {
+            return true;
+        }
+        i += 1;
+    }
+    false
+}
+
+// The first state of process p with such a number, or 0.
+fn clock_fault(run: &[u8], counts: &[u16], places: &[u16], clocks: &[u16], n: u16, p: u16) -> u16
+    requires { ⌜ Listed (now run) (now counts) (now places) × Clocks (runIn (now run)) (clockIn (now clocks)) × (length (now clocks) ≡ 32768) × (n ≡ headOf (now run) .processes) × (p < n) ⌝ }
+    ensures { λ r. ⌜ FirstOf (now (run .entry)) (WrongClock (now (run .entry))) p r ⌝ }
+{
+    let row = p as usize;
+    let count = counts[row];
+    let mut k: u16 = 1;
+    while k <= count {
+        if differs(run, places, clocks, n, p, k) {
+            return k;
+        }
+        k += 1;
+    }
+    0
+}
+
+// Of every process, into `bad`.
+pub fn clock_faults(
+    run: &[u8],
+    counts: &[u16],
+    places: &[u16],
+    clocks: &[u16],
+    bad: &mut [u16],
+    n: u16,
+)
+    requires { ⌜ Listed (now run) (now counts) (now places) × Clocks (runIn (now run)) (clockIn (now clocks)) × (length (now clocks) ≡ 32768) × (length (now bad) ≡ 8) × (n ≡ headOf (now run) .processes) ⌝ }
+    ensures { λ _. ⌜ FirstsTo (now (run .entry)) (WrongClock (now (run .entry))) n (now (bad .exit)) ⌝ }
+{
+    let mut p: u16 = 0;
+    while p < n {
+        let first = clock_fault(run, counts, places, clocks, n, p);
+        let row = p as usize;
+        bad[row] = first;
+        p += 1;
     }
 }

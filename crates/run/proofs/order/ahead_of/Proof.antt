@@ -1,11 +1,9 @@
 use borrow.Author.Needs.{needs}
 use native.Mathlib.Omega.{arith}
-use mathlib.Core.Path.{_≡_, refl, sym, ap, _∙_, subst}
-use Prim.Native.Nat.{ℕ, suc, _+_, _-_, _*_, _≤_, _<_, max}
-use lib.ListN.{length, getD}
+use mathlib.Core.Path.{_≡_, refl, sym, ap, _∙_}
+use Prim.Native.Nat.{ℕ, _<_}
 use Rattle.record.specs.Record.{headOf}
-use Rattle.run.specs.Tables.{runIn, slot}
-use Rattle.run.specs.Order.{AheadIs}
+use Rattle.run.specs.Tables.{slot}
 use Rattle.run.specs.Order.AheadIs.{nothing}
 use Rattle.run.proofs.Listed.{ok, channels-are, channel-is, process-of, placed-eight, placed-few, placed-whole, placed-event}
 use Rattle.run.proofs.Orders.{ahead-later, ahead-receive}

@@ -1,8 +1,7 @@
 use native.Mathlib.Omega.{arith}
-use mathlib.Core.Path.{_≡_, refl, sym, ap, _∙_, subst}
-use Prim.Native.Nat.{ℕ, suc, _+_, _-_, _*_, _≤_, _<_, max}
-use lib.ListN.{length, set, length-set}
-use Rattle.run.specs.Tables.{slot}
+use mathlib.Core.Path.{_≡_, sym, _∙_}
+use Prim.Native.Nat.{_-_, _≤_}
+use lib.ListN.{length, length-set}
 use Rattle.run.specs.Order.{Written}
 use Rattle.run.proofs.Orders.{written-start, written-next}
 use Rattle.run.proofs.order.clock_row.Statement.{statement}

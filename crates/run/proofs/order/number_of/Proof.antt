@@ -1,6 +1,4 @@
 use borrow.Author.Needs.{needs}
-use mathlib.Core.Path.{_≡_, refl, sym, ap, _∙_, subst}
-use Prim.Native.Nat.{ℕ, suc, _+_, _-_, _*_, _≤_, _<_, max}
 use borrow.Author.Tests.{eq-eqb}
 use Rattle.run.specs.Order.{numberOf}
 use Rattle.run.proofs.Orders.{number-other}
