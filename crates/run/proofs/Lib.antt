@@ -9,5 +9,6 @@ pub mod Listed
 pub mod Firsts
 pub mod Pairs
 pub mod Partners
+pub mod Once
 pub mod Orders
 pub mod Verdicts

@@ -22,10 +22,15 @@ use Rattle.model.proofs.Messages.{sending-send, receiving-receive}
 use Rattle.record.specs.Record.{headOf}
 use Rattle.run.specs.declared.First.{First}
 use Rattle.run.specs.declared.First.the-variants.{Nothing, At}
-use Rattle.run.specs.Read.{readOf}
-use Rattle.run.specs.Read.Verdict.{accepted}
-use Rattle.run.specs.Tables.{statesOf, runIn, slot, Partnered, Listed}
-use Rattle.run.specs.Judged.{placeOf, Unpaired, FirstAt, Nowhere, Earliest, PairingJudged, Circular, CircleJudged}
+use Rattle.record.specs.declared.Head.{Head}
+use Rattle.record.specs.declared.Refusal.{Refusal}
+use Rattle.run.specs.declared.Reading.{Reading}
+use Rattle.run.specs.declared.Reading.the-variants.{Accepted, Refused}
+use Rattle.run.specs.Read.{Verdict, readOf, reading, Passed}
+use Rattle.run.specs.Read.Verdict.{refused, accepted}
+use Rattle.run.specs.Tables.{statesOf, placesIn, runIn, slot, clockIn, Partnered, Listed}
+use Rattle.run.specs.Judged.{placeOf, Unpaired, FirstAt, Nowhere, Earliest, PairingJudged, Circular, CircleJudged, WrongClock, ClockJudged}
+use Rattle.run.specs.Judged.ClockJudged.{wrongClock, allRight}
 use Rattle.run.specs.Judged.CircleJudged.{circular, noCircle}
 use Rattle.run.specs.Order.{Ordered}
 use Rattle.run.specs.Inner.{nextOf, Undone}
@@ -223,3 +228,54 @@ module _ (s cs ps done ks bad : List ℕ) (w : Listed s cs ps) (o : Ordered s do
       (λ x. omega (arith, t .there, x .0))
       (bad-is j (process-of s (w .read) t))) h)
   circle-judged (At x) e = circular x (first-at s (w .read) (Circular s) bad circle-firsts x e)
+
+-- ---- what each of the three gives of its first fault, or of there being none
+
+module _ {s : List ℕ} where
+  pub unpaired-at : {ns : List ℕ} {f : First} (x : ℕ) → PairingJudged s ns f → f ≡ At x → FirstAt s (Unpaired s) x
+  unpaired-at x (unpaired y w) e = subst (FirstAt s (Unpaired s)) (let z : y ≡ x = cc in z) w
+  unpaired-at x (allPaired a b d) e = absurd (let z : _≡_ {A = ℕ} 0 1 = cc in omega arith)
+
+  pub paired-none : {ns : List ℕ} {f : First} → PairingJudged s ns f → f ≡ Nothing → Nowhere s (Unpaired s) × Known (runIn s) × Partnered (runIn s) ns
+  paired-none (unpaired y w) e = absurd (let z : _≡_ {A = ℕ} 0 1 = cc in omega arith)
+  paired-none (allPaired a b d) e = (a, b, d)
+
+  pub circular-at : {ks : List ℕ} {f : First} (x : ℕ) → CircleJudged s ks f → f ≡ At x → FirstAt s (Circular s) x
+  circular-at x (circular y w) e = subst (FirstAt s (Circular s)) (let z : y ≡ x = cc in z) w
+  circular-at x (noCircle a b) e = absurd (let z : _≡_ {A = ℕ} 0 1 = cc in omega arith)
+
+  pub circular-none : {ks : List ℕ} {f : First} → CircleJudged s ks f → f ≡ Nothing → Nowhere s (Circular s) × Clocks (runIn s) (clockIn ks)
+  circular-none (circular y w) e = absurd (let z : _≡_ {A = ℕ} 0 1 = cc in omega arith)
+  circular-none (noCircle a b) e = (a, b)
+
+  pub clock-at : {f : First} (x : ℕ) → ClockJudged s f → f ≡ At x → FirstAt s (WrongClock s) x
+  clock-at x (wrongClock y w) e = subst (FirstAt s (WrongClock s)) (let z : y ≡ x = cc in z) w
+  clock-at x (allRight a) e = absurd (let z : _≡_ {A = ℕ} 0 1 = cc in omega arith)
+
+  pub clock-none : {f : First} → ClockJudged s f → f ≡ Nothing → Nowhere s (WrongClock s)
+  clock-none (wrongClock y w) e = absurd (let z : _≡_ {A = ℕ} 0 1 = cc in omega arith)
+  clock-none (allRight a) e = a
+
+-- the first wrong clock of each process, as the verdict on all
+pub clock-judged : (s : List ℕ) (read : readOf s ≡ accepted (statesOf s)) (bad : List ℕ) → Firsts s (WrongClock s) bad → (f : First) → Earliest s (headOf s .processes) bad f → ClockJudged s f
+clock-judged s read bad w Nothing e = allRight (first-none s read (WrongClock s) bad w e)
+clock-judged s read bad w (At x) e = wrongClock x (first-at s read (WrongClock s) bad w x e)
+
+-- ---- what the pass gives
+
+pub refused-by-pass : {s cs ps : List ℕ} {r : Reading} (x : Refusal) → Passed s (readOf s) r cs ps → r ≡ Refused x → readOf s ≡ refused x
+refused-by-pass {s} x w same = go (readOf s) (sym same ∙ w .answer)
+  where
+    go : (v : Verdict) → Refused x ≡ reading s v → v ≡ refused x
+    go (refused y) e = cc
+    go (accepted qs) e = absurd (let z : _≡_ {A = ℕ} 0 1 = cc in omega arith)
+
+pub listed-by-pass : {s cs ps : List ℕ} {r : Reading} (h : Head) → Passed s (readOf s) r cs ps → r ≡ Accepted h → length ps ≡ 4096 → Listed s cs ps × (h ≡ headOf s)
+unfolding statesOf
+listed-by-pass {s} {cs} {ps} h w same long = go (readOf s) refl (sym same ∙ w .answer)
+  where
+    go : (v : Verdict) → readOf s ≡ v → Accepted h ≡ reading s v → Listed s cs ps × (h ≡ headOf s)
+    go (refused y) d e = absurd (let z : _≡_ {A = ℕ} 0 1 = cc in omega arith)
+    go (accepted qs) d e =
+        let states : readOf s ≡ accepted (statesOf s) = d ∙ ap accepted (sym (ap placesIn d)) in
+        (record { read = states; index = w .index (statesOf s) states; long = long }, cc)

@@ -23,7 +23,7 @@ use Rattle.run.specs.declared.Reading.the-variants.{Accepted, Refused}
 use Rattle.run.specs.States.{placesOf}
 use Rattle.run.specs.Read.{Verdict, readOf}
 use Rattle.run.specs.Read.Verdict.{refused, accepted}
-use Rattle.run.specs.Tables.{statesOf, runIn, Partnered, clockIn}
+use Rattle.run.specs.Tables.{statesOf, runIn, Partnered, clockIn, Tables}
 
 module _ (s : List ℕ) where
   -- the byte place of state k of process p
@@ -91,3 +91,8 @@ pub data CircleJudged (s ks : List ℕ) : First → Type 0 where
 pub data ClockJudged (s : List ℕ) : First → Type 0 where
   wrongClock : (x : ℕ) → FirstAt s (WrongClock s) x → ClockJudged s (At x)
   allRight : Nowhere s (WrongClock s) → ClockJudged s Nothing
+
+-- of an accepted run the tables are filled
+abbrev pub Ready : (s cs ps ns ks : List ℕ) → Reading → Type 0
+Ready s cs ps ns ks (Accepted h) = Tables s cs ps ns ks
+Ready s cs ps ns ks (Refused x) = Unit {0}
