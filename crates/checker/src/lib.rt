@@ -1,0 +1,21 @@
+// The public calls over raw bytes. Each judges the whole run first, then the condition, and only then answers.
+use record::Refusal;
+
+// What the search says: found with the first cut in the lent places, that no cut satisfies, or the first refusal.
+pub enum Answer {
+    Found,
+    Nowhere,
+    Refused(Refusal),
+}
+
+pub enum Verdict {
+    Yes,
+    No,
+    Refused(Refusal),
+}
+
+// How many messages are in transit on a channel.
+pub enum Count {
+    Messages(usize),
+    Refused(Refusal),
+}
