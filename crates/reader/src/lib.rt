@@ -1,4 +1,6 @@
-// A reader of the run: the lent bytes together with a place. Each function is thin, and leaves the work to the reading step over bytes and a place apart.
+// A reader of the run: the lent bytes together with a place. Each function is thin, and leaves the work to the reading step over bytes and a place apart. `shown` gives the bytes of a refused record.
+pub mod shown;
+
 use record::Step;
 use record::reading::step;
 ghost use mathlib.Core.Path.{_≡_};

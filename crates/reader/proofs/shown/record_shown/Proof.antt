@@ -1,0 +1,32 @@
+use borrow.Author.Needs.{needs}
+use mathlib.Core.Path.{_≡_, ap, sym, _∙_}
+use mathlib.Core.Bool.{_||_}
+use lib.Dec.{ltb}
+use lib.ListN.{take, drop}
+use denote.Ref.{now}
+use Rattle.reader.proofs.Parts.{shown-rest, shown-stated, length-there}
+use Rattle.reader.proofs.shown.record_shown.Statement.{statement}
+use Rattle.reader.proofs.shown.record_shown.Tie as tie
+
+returns : tie.Need-returns
+returns c =
+    let a = c .before .before .before .before .args in
+    let e = c .before .before .left-from .ensures in
+    c .part .ensures ∙ ap (λ n. take n (drop (a .at) (now (a .bytes)))) e
+    ∙ shown-rest _ _ (a .after) (ap (λ n. a .after || ltb n 2) (sym e) ∙ c .before .if1 .taken)
+
+u16-at-requires : tie.Need-u16-at-requires
+u16-at-requires c κs =
+    let a = c .before .before .before .args in
+    length-there (now (a .bytes)) (a .at) (a .after) (ap (λ n. a .after || ltb n 2) (sym (c .before .left-from .ensures)) ∙ c .if1 .left)
+
+returns-2 : tie.Need-returns-2
+returns-2 c =
+    let a = c .before .before .before .before .before .args in
+    c .part2 .ensures ∙ ap (λ n. take n (drop (a .at) (now (a .bytes)))) (c .before .u16-at .ensures)
+    ∙ shown-stated _ _ (a .after) (ap (λ n. a .after || ltb n 2) (sym (c .before .before .before .left-from .ensures)) ∙ c .before .before .if1 .left)
+
+pub record-shown-spec : {M : Type 1} → statement M
+record-shown-spec =
+    tie.close (tie.spec
+    (λ c κs. search needs) (λ c κs. search needs) returns u16-at-requires (λ c. search needs) (λ c κs. search needs) returns-2)
