@@ -1,4 +1,7 @@
 // The public calls over raw bytes. Each judges the whole run first, then the condition, and only then answers.
+pub mod finding;
+pub mod showing;
+
 use record::Refusal;
 
 // What the search says: found with the first cut in the lent places, that no cut satisfies, or the first refusal.

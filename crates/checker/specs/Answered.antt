@@ -1,0 +1,42 @@
+-- What the search over raw bytes says, and what it leaves in the lent places.
+use mathlib.Core.Path.{_≡_}
+use mathlib.Core.List.{List}
+use Prim.Native.Nat.{ℕ, _≤_, _<_}
+use lib.ListN.{length, getD}
+use Rattle.model.specs.Cut.{at}
+use Rattle.model.specs.Clause.{Clause, Satisfies, First}
+use Rattle.record.specs.Record.{headOf}
+use Rattle.record.specs.Refusal.{number, refusal}
+use Rattle.record.specs.Refusal.Reason.{noRoom}
+use Rattle.record.specs.declared.File.the-variants.{Run}
+use Rattle.record.specs.declared.Refusal.{Refusal}
+use Rattle.run.specs.Tables.{runIn}
+use Rattle.run.specs.Judged.{Judged}
+use Rattle.run.specs.declared.Reading.the-variants as R
+use Rattle.condition.specs.Read.{placesIn, readOf, clausesIn}
+use Rattle.condition.specs.Read.Verdict.{refused, accepted}
+use Rattle.checker.specs.declared.Answer.{Answer}
+use Rattle.checker.specs.declared.Answer.the-variants as A
+
+-- run and condition are accepted
+pub record Both (s c : List ℕ) : Type 0 where
+  pub run : Judged s (R.Accepted (headOf s))
+  pub cond : readOf c (headOf s) ≡ accepted (placesIn (readOf c (headOf s)))
+
+-- the cut stands in the first places, and those past it are as they were
+pub record Wrote (cut lent lent′ : List ℕ) : Type 0 where
+  pub long : length lent′ ≡ length lent
+  pub front : (i : ℕ) → i < length cut → getD lent′ i 0 ≡ at cut i
+  pub past : (i : ℕ) → length cut ≤ i → getD lent′ i 0 ≡ getD lent i 0
+
+-- the condition's clauses beside the run's head
+abbrev pub clauses : List ℕ → List ℕ → List Clause
+clauses s c = clausesIn c (headOf s)
+
+-- in this order: the run is refused, the condition is, the lent places are too few; found, none
+pub data Answered (s c lent lent′ : List ℕ) : Answer → Type 0 where
+  runRefused : (x : Refusal) → Judged s (R.Refused x) → lent′ ≡ lent → Answered s c lent lent′ (A.Refused x)
+  condRefused : (x : Refusal) → Judged s (R.Accepted (headOf s)) → readOf c (headOf s) ≡ refused x → lent′ ≡ lent → Answered s c lent lent′ (A.Refused x)
+  few : Both s c → length lent < headOf s .processes → lent′ ≡ lent → Answered s c lent lent′ (A.Refused (refusal Run (number noRoom) 0))
+  found : Both s c → headOf s .processes ≤ length lent → (cut : List ℕ) → First (runIn s) (clauses s c) cut → Wrote cut lent lent′ → Answered s c lent lent′ A.Found
+  nowhere : Both s c → headOf s .processes ≤ length lent → ((d : List ℕ) → ¬ Satisfies (runIn s) (clauses s c) d) → lent′ ≡ lent → Answered s c lent lent′ A.Nowhere
