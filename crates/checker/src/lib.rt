@@ -1,4 +1,6 @@
 // The public calls over raw bytes. Each judges the whole run first, then the condition, and only then answers.
+pub mod questions;
+
 use record::Refusal;
 
 // What the search says: found with the first cut in the lent places, that no cut satisfies, or the first refusal.
