@@ -3,7 +3,7 @@ use mathlib.Core.Path.{_≡_}
 use mathlib.Core.List.{List}
 use Prim.Native.Nat.{ℕ, _≤_, _<_}
 use lib.ListN.{length, getD}
-use Rattle.model.specs.Cut.{at, IsCut, Consistent}
+use Rattle.model.specs.Cut.{at, IsCut, Consistent, inTransit}
 use Rattle.record.specs.Record.{headOf}
 use Rattle.record.specs.Refusal.{Reason, number, refusal}
 use Rattle.record.specs.declared.File.the-variants.{Run}
@@ -11,6 +11,8 @@ use Rattle.record.specs.declared.Refusal.{Refusal}
 use Rattle.run.specs.declared.Reading.the-variants as R
 use Rattle.run.specs.Judged.{Judged}
 use Rattle.run.specs.Tables.{runIn}
+use Rattle.checker.specs.declared.Count.{Count}
+use Rattle.checker.specs.declared.Count.the-variants as C
 use Rattle.checker.specs.declared.Verdict.{Verdict}
 use Rattle.checker.specs.declared.Verdict.the-variants as A
 
@@ -24,9 +26,12 @@ pub record Chosen (counts cut : List ℕ) (n : ℕ) : Type 0 where
 abbrev pub RunAccepted : List ℕ → Type 0
 RunAccepted s = Judged s (R.Accepted (headOf s))
 
--- 16, which has no record
+-- 16 and 17, which have no record
 abbrev pub noCut : Refusal
 noCut = refusal Run (number Reason.wrongCut) 0
+
+abbrev pub noSuchChannel : Refusal
+noSuchChannel = refusal Run (number Reason.noChannel) 0
 
 module _ (s cut : List ℕ) where
   pub data AskedConsistent : Verdict → Type 0 where
@@ -34,3 +39,9 @@ module _ (s cut : List ℕ) where
     wrongCut : RunAccepted s → ¬ IsCut (runIn s) cut → AskedConsistent (A.Refused noCut)
     yes : RunAccepted s → IsCut (runIn s) cut → Consistent (runIn s) cut → AskedConsistent A.Yes
     no : RunAccepted s → IsCut (runIn s) cut → ¬ Consistent (runIn s) cut → AskedConsistent A.No
+
+  pub data AskedMessages (channel : ℕ) : Count → Type 0 where
+    runRefused : (x : Refusal) → Judged s (R.Refused x) → AskedMessages channel (C.Refused x)
+    wrongCut : RunAccepted s → ¬ IsCut (runIn s) cut → AskedMessages channel (C.Refused noCut)
+    noChannel : RunAccepted s → IsCut (runIn s) cut → headOf s .channels ≤ channel → AskedMessages channel (C.Refused noSuchChannel)
+    messages : RunAccepted s → IsCut (runIn s) cut → channel < headOf s .channels → AskedMessages channel (C.Messages (length (inTransit (runIn s) cut channel)))
