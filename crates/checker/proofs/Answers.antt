@@ -1,73 +1,60 @@
--- What the parts of the search tell: the judging of the run, the reading of the condition, the elimination.
-use mathlib.Core.Path.{_≡_, refl, sym, ap, _∙_, subst}
-use mathlib.Core.List.{List, [], _∷_}
-use Prim.Native.Nat.{ℕ, zero, suc, _≤_, _<_}
+-- Each contract allows one answer.
+use mathlib.Core.Path.{_≡_, refl, ap}
+use mathlib.Core.List.{List}
+use Prim.Native.Nat.{ℕ}
 use native.Mathlib.Omega.{arith}
-use lib.ListN.{length, getD, take, replicate}
-use Rattle.model.specs.Clause.{Satisfies, First}
 use Rattle.record.specs.Record.{headOf}
-use Rattle.record.specs.declared.Head.{Head}
 use Rattle.record.specs.declared.Refusal.{Refusal}
-use Rattle.run.specs.Tables.{runIn, Tables}
-use Rattle.run.specs.Judged.{Judged, Ready}
-use Rattle.run.specs.Judged.Judged.{byPass, byPairing, byCircle, byClock, wholly}
-use Rattle.run.specs.declared.Reading.{Reading}
 use Rattle.run.specs.declared.Reading.the-variants as R
-use Rattle.condition.specs.Read.{Verdict, placesIn, readOf, reading, Passed}
-use Rattle.condition.specs.Read.Verdict.{refused, accepted}
-use Rattle.condition.specs.declared.Reading as D
-use Rattle.condition.specs.declared.Reading.the-variants as C
-use Rattle.search.specs.Search.{Given, Searched}
-use Rattle.search.specs.Search.Searched.{found, nowhere}
-use Rattle.search.specs.declared.Answer as E
-use Rattle.search.specs.declared.Answer.the-variants as S
-use Rattle.checker.specs.Answered.{Both, clauses}
+use Rattle.run.specs.Judged.{Judged}
+use Rattle.run.proofs.Once.{judged-one}
+use Rattle.checker.specs.declared.Count.{Count}
+use Rattle.checker.specs.declared.Count.the-variants as C
+use Rattle.checker.specs.declared.Verdict.{Verdict}
+use Rattle.checker.specs.declared.Verdict.the-variants as A
+use Rattle.checker.specs.Questions.{RunAccepted, AskedConsistent, AskedMessages}
 
--- ---- the run
+module _ (s : List ℕ) where
+  -- a run is refused once, and no accepted run is refused
+  same-refusal : {x y : Refusal} → Judged s (R.Refused x) → Judged s (R.Refused y) → x ≡ y
+  same-refusal j k = let e = judged-one s j k in cc
 
-pub head-is : {s : List ℕ} {a : Reading} (h : Head) → Judged s a → a ≡ R.Accepted h → h ≡ headOf s
-head-is h (byPass x d) e = absurd (let z : _≡_ {A = ℕ} 0 1 = cc in omega arith)
-head-is h (byPairing x d w) e = absurd (let z : _≡_ {A = ℕ} 0 1 = cc in omega arith)
-head-is h (byCircle x d n w) e = absurd (let z : _≡_ {A = ℕ} 0 1 = cc in omega arith)
-head-is h (byClock x d n m w) e = absurd (let z : _≡_ {A = ℕ} 0 1 = cc in omega arith)
-head-is h (wholly d n m o) e = cc
+  not-both : {x : Refusal} → Judged s (R.Refused x) → RunAccepted s → ⊥
+  not-both j k = let e = judged-one s j k in let z : _≡_ {A = ℕ} 0 1 = cc in omega arith
 
--- ---- the condition
+  module _ (cut : List ℕ) where
+    pub consistent-one : {a b : Verdict} → AskedConsistent s cut a → AskedConsistent s cut b → a ≡ b
+    consistent-one (AskedConsistent.runRefused x j) (AskedConsistent.runRefused y k) = ap A.Refused (same-refusal j k)
+    consistent-one (AskedConsistent.runRefused x j) (AskedConsistent.wrongCut k n) = absurd (not-both j k)
+    consistent-one (AskedConsistent.runRefused x j) (AskedConsistent.yes k i t) = absurd (not-both j k)
+    consistent-one (AskedConsistent.runRefused x j) (AskedConsistent.no k i t) = absurd (not-both j k)
+    consistent-one (AskedConsistent.wrongCut j n) (AskedConsistent.runRefused y k) = absurd (not-both k j)
+    consistent-one (AskedConsistent.wrongCut j n) (AskedConsistent.wrongCut k m) = refl
+    consistent-one (AskedConsistent.wrongCut j n) (AskedConsistent.yes k i t) = absurd (n i)
+    consistent-one (AskedConsistent.wrongCut j n) (AskedConsistent.no k i t) = absurd (n i)
+    consistent-one (AskedConsistent.yes j i t) (AskedConsistent.runRefused y k) = absurd (not-both k j)
+    consistent-one (AskedConsistent.yes j i t) (AskedConsistent.wrongCut k n) = absurd (n i)
+    consistent-one (AskedConsistent.yes j i t) (AskedConsistent.yes k l u) = refl
+    consistent-one (AskedConsistent.yes j i t) (AskedConsistent.no k l u) = absurd (u t)
+    consistent-one (AskedConsistent.no j i t) (AskedConsistent.runRefused y k) = absurd (not-both k j)
+    consistent-one (AskedConsistent.no j i t) (AskedConsistent.wrongCut k n) = absurd (n i)
+    consistent-one (AskedConsistent.no j i t) (AskedConsistent.yes k l u) = absurd (t u)
+    consistent-one (AskedConsistent.no j i t) (AskedConsistent.no k l u) = refl
 
-module _ {v : Verdict} {places : List ℕ} where
-  pub condition-refused : {r : D.Reading} (x : Refusal) → Passed v r places → r ≡ C.Refused x → v ≡ refused x
-  condition-refused x w same = go v (sym same ∙ w .answer)
-    where
-      go : (v : Verdict) → C.Refused x ≡ reading v → v ≡ refused x
-      go (refused y) e = cc
-      go (accepted qs) e = absurd (let z : _≡_ {A = ℕ} 0 1 = cc in omega arith)
-
-  pub condition-accepted : {r : D.Reading} (k : ℕ) → Passed v r places → r ≡ C.Accepted k → (v ≡ accepted (placesIn v)) × (k ≡ length (placesIn v))
-  condition-accepted k w same = go v (sym same ∙ w .answer)
-    where
-      go : (v : Verdict) → C.Accepted k ≡ reading v → (v ≡ accepted (placesIn v)) × (k ≡ length (placesIn v))
-      go (refused y) e = absurd (let z : _≡_ {A = ℕ} 0 1 = cc in omega arith)
-      go (accepted qs) e = (refl, cc)
-
--- an accepted run and condition, with their tables
-pub given : {s c cs ps ns ks qs : List ℕ} {r : D.Reading} (k : ℕ) → Tables s cs ps ns ks → Passed (readOf c (headOf s)) r qs → r ≡ C.Accepted k → length qs ≡ 32 → Given s c cs ps ns ks qs k
-given k t w e long =
-    let (a, n) = condition-accepted k w e in
-    record { tables = t; read = a; counted = n; placed = λ i h. w .placed _ a i (omega (arith, h, n)); long = long }
-
--- ---- the elimination
-
-module _ {s c cut : List ℕ} where
-  pub searched-found : {a : E.Answer} → Searched s c cut a → a ≡ S.Found → First (runIn s) (clauses s c) cut
-  searched-found (found w) e = w
-  searched-found (nowhere w) e = absurd (let z : _≡_ {A = ℕ} 0 1 = cc in omega arith)
-
-  pub searched-nowhere : {a : E.Answer} → Searched s c cut a → a ≡ S.Nowhere → (d : List ℕ) → ¬ Satisfies (runIn s) (clauses s c) d
-  searched-nowhere (found w) e = absurd (let z : _≡_ {A = ℕ} 0 1 = cc in omega arith)
-  searched-nowhere (nowhere w) e = w
-
--- the front of a row of equal numbers
-pub take-replicate : (k n x : ℕ) → k ≤ n → take k (replicate n x) ≡ replicate k x
-take-replicate zero n x h = refl
-take-replicate (suc k) zero x h = absurd (omega arith)
-take-replicate (suc k) (suc n) x h = ap (λ xs. x ∷ xs) (take-replicate k n x (omega arith))
+    pub messages-one : (channel : ℕ) {a b : Count} → AskedMessages s cut channel a → AskedMessages s cut channel b → a ≡ b
+    messages-one channel (AskedMessages.runRefused x j) (AskedMessages.runRefused y k) = ap C.Refused (same-refusal j k)
+    messages-one channel (AskedMessages.runRefused x j) (AskedMessages.wrongCut k m) = absurd (not-both j k)
+    messages-one channel (AskedMessages.runRefused x j) (AskedMessages.noChannel k l h) = absurd (not-both j k)
+    messages-one channel (AskedMessages.runRefused x j) (AskedMessages.messages k l h) = absurd (not-both j k)
+    messages-one channel (AskedMessages.wrongCut j n) (AskedMessages.runRefused y k) = absurd (not-both k j)
+    messages-one channel (AskedMessages.wrongCut j n) (AskedMessages.wrongCut k m) = refl
+    messages-one channel (AskedMessages.wrongCut j n) (AskedMessages.noChannel k l h) = absurd (n l)
+    messages-one channel (AskedMessages.wrongCut j n) (AskedMessages.messages k l h) = absurd (n l)
+    messages-one channel (AskedMessages.noChannel j i g) (AskedMessages.runRefused y k) = absurd (not-both k j)
+    messages-one channel (AskedMessages.noChannel j i g) (AskedMessages.wrongCut k m) = absurd (m i)
+    messages-one channel (AskedMessages.noChannel j i g) (AskedMessages.noChannel k l h) = refl
+    messages-one channel (AskedMessages.noChannel j i g) (AskedMessages.messages k l h) = absurd (omega (arith, g, h))
+    messages-one channel (AskedMessages.messages j i g) (AskedMessages.runRefused y k) = absurd (not-both k j)
+    messages-one channel (AskedMessages.messages j i g) (AskedMessages.wrongCut k m) = absurd (m i)
+    messages-one channel (AskedMessages.messages j i g) (AskedMessages.noChannel k l h) = absurd (omega (arith, g, h))
+    messages-one channel (AskedMessages.messages j i g) (AskedMessages.messages k l h) = refl

@@ -1,3 +1,5 @@
+pub mod Parts
 pub mod Answers
 pub mod Once
 pub mod Demands
+pub mod Cuts

@@ -1,5 +1,6 @@
 // The public calls over raw bytes. Each judges the whole run first, then the condition, and only then answers.
 pub mod finding;
+pub mod questions;
 pub mod showing;
 
 use record::Refusal;

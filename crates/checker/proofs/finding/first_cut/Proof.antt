@@ -4,7 +4,7 @@ use mathlib.Core.Path.{_≡_, refl, sym, ap, _∙_, subst}
 use Rattle.run.specs.Judged.{Judged}
 use Rattle.run.specs.declared.Reading.the-variants as R
 use Rattle.checker.specs.Answered.Answered.{runRefused}
-use Rattle.checker.proofs.Answers.{head-is}
+use Rattle.checker.proofs.Parts.{head-is}
 use Rattle.checker.proofs.finding.first_cut.Statement.{statement}
 use Rattle.checker.proofs.finding.first_cut.Tie as tie
 

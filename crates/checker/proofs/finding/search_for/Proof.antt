@@ -7,7 +7,7 @@ use Rattle.model.specs.Run.{processes}
 use Rattle.run.specs.Tables.{runIn}
 use Rattle.run.proofs.Listed.{ok, processes-are}
 use Rattle.checker.specs.Answered.Answered.{few}
-use Rattle.checker.proofs.Answers.{take-replicate}
+use Rattle.checker.proofs.Parts.{take-replicate}
 use Rattle.checker.proofs.finding.search_for.Statement.{statement}
 use Rattle.checker.proofs.finding.search_for.Tie as tie
 

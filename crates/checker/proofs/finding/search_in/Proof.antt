@@ -3,7 +3,7 @@ use native.Mathlib.Omega.{arith}
 use mathlib.Core.Path.{_≡_, refl, sym, ap, _∙_, subst}
 use Rattle.run.proofs.Listed.{ok, processes-are}
 use Rattle.checker.specs.Answered.Answered.{found, nowhere}
-use Rattle.checker.proofs.Answers.{searched-found, searched-nowhere}
+use Rattle.checker.proofs.Parts.{searched-found, searched-nowhere}
 use Rattle.checker.proofs.finding.search_in.Statement.{statement}
 use Rattle.checker.proofs.finding.search_in.Tie as tie
 

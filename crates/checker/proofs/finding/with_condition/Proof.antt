@@ -3,7 +3,7 @@ use native.Mathlib.Omega.{arith}
 use mathlib.Core.Path.{_≡_, refl, sym, ap, _∙_, subst}
 use Rattle.condition.specs.Read.{Passed, readOf}
 use Rattle.checker.specs.Answered.Answered.{condRefused}
-use Rattle.checker.proofs.Answers.{condition-refused, condition-accepted, given}
+use Rattle.checker.proofs.Parts.{condition-refused, condition-accepted, given}
 use Rattle.checker.proofs.finding.with_condition.Statement.{statement}
 use Rattle.checker.proofs.finding.with_condition.Tie as tie
 

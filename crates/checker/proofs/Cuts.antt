@@ -1,0 +1,114 @@
+-- What the tables of an accepted run say of a given cut.
+use mathlib.Core.Path.{_≡_, refl, sym, ap, _∙_, subst}
+use mathlib.Core.Logic.{_↔_}
+use mathlib.Core.Bool.{Bool, true, false, not, _||_}
+use mathlib.Core.List.{List}
+use Prim.Native.Nat.{ℕ, zero, suc, _≤_, _<_}
+use native.Mathlib.Omega.{arith}
+use borrow.Author.Tests.{eqb-true, eqb-false, ltb-true, ltb-false}
+use lib.Dec.{eqb, ltb}
+use lib.ListN.{length, getD}
+use Rattle.model.specs.Run.{processes, count, IsState}
+use Rattle.model.specs.Cut.{at, IsCut}
+use Rattle.record.specs.Record.{headOf}
+use Rattle.record.specs.declared.Head.{Head}
+use Rattle.record.specs.declared.Refusal.{Refusal}
+use Rattle.run.specs.declared.Reading.{Reading}
+use Rattle.run.specs.declared.Reading.the-variants as R
+use Rattle.run.specs.Judged.{Judged, Ready}
+use Rattle.run.specs.Judged.Judged.{byPass, byPairing, byCircle, byClock, wholly}
+use Rattle.run.specs.Tables.{runIn, Listed, Tables}
+use Rattle.run.proofs.Listed.{ok, processes-are, placed-few, listed-places, listed-count}
+use Rattle.cut.specs.Clocks.{InTable}
+use Rattle.checker.specs.Questions.{Chosen, RunAccepted}
+
+-- the test of one number
+pub number-wrong : (x y : ℕ) → (eqb x 0 || ltb y x) ≡ true → 1 ≤ x → x ≤ y → ⊥
+number-wrong x y e a b = go (eqb x 0) refl e
+  where
+    go : (t : Bool) → eqb x 0 ≡ t → (t || ltb y x) ≡ true → ⊥
+    go true d e = omega (arith, eqb-true x 0 d)
+    go false d e = omega (arith, ltb-true y x e)
+
+pub number-right : (x y : ℕ) → (eqb x 0 || ltb y x) ≡ false → (1 ≤ x) × (x ≤ y)
+number-right x y e = go (eqb x 0) refl e
+  where
+    go : (t : Bool) → eqb x 0 ≡ t → (t || ltb y x) ≡ false → (1 ≤ x) × (x ≤ y)
+    go true d e = absurd (let z : _≡_ {A = ℕ} 0 1 = cc in omega arith)
+    go false d e = (nonzero x (eqb-false x 0 d), ltb-false y x e)
+      where
+        nonzero : (x : ℕ) → (x ≡ 0 → ⊥) → 1 ≤ x
+        nonzero zero n = absurd (n refl)
+        nonzero (suc x) n = omega arith
+
+module _ (s cs ps : List ℕ) (w : Listed s cs ps) where
+  pub few : headOf s .processes ≤ 8
+  few = omega (arith, ok s (w .read) .head .few)
+
+  module _ (cut : List ℕ) where
+    pub chosen-cut : Chosen cs cut (headOf s .processes) → IsCut (runIn s) cut
+    chosen-cut v = record {
+      size = v .size ∙ sym (processes-are s (w .read));
+      states = λ i h.
+          let l : i < headOf s .processes = omega (arith, processes-are s (w .read)) in
+          record { counted = v .counted i l; there = subst (λ n. at cut i ≤ n) (listed-count s cs ps w i l) (v .there i l) };
+    }
+
+    pub cut-chosen : IsCut (runIn s) cut → Chosen cs cut (headOf s .processes)
+    cut-chosen is = record {
+      size = is .size ∙ processes-are s (w .read);
+      counted = λ p h. is .states p (omega (arith, processes-are s (w .read))) .counted;
+      there = λ p h. subst (λ n. at cut p ≤ n) (sym (listed-count s cs ps w p h)) (is .states p (omega (arith, processes-are s (w .read))) .there);
+    }
+
+    pub cut-in-table : IsCut (runIn s) cut → InTable cut
+    cut-in-table is = record {
+      few = omega (arith, is .size, processes-are s (w .read), few);
+      counted = λ j h. is .states j (omega (arith, is .size)) .counted;
+      there = λ j h. omega (arith, is .states j (omega (arith, is .size)) .there, placed-few s ps (listed-places w) j (omega (arith, is .size, processes-are s (w .read))));
+    }
+
+  denied : (t : Bool) → not t ≡ true → t ≡ false
+  denied true e = absurd (let z : _≡_ {A = ℕ} 0 1 = cc in omega arith)
+  denied false e = refl
+
+  granted : (t : Bool) → not t ≡ false → t ≡ true
+  granted true e = refl
+  granted false e = absurd (let z : _≡_ {A = ℕ} 0 1 = cc in omega arith)
+
+  -- by the test, with the head that the judging hands up
+  module _ (head : Head) (same : head ≡ headOf s) where
+    pub few-said : head .processes ≤ 8
+    few-said = subst (λ h. h .processes ≤ 8) (sym same) few
+
+    module _ (cut : List ℕ) {t : Bool} (told : (t ≡ true) ↔ Chosen cs cut (head .processes)) where
+      pub told-cut : not t ≡ false → IsCut (runIn s) cut
+      told-cut e = chosen-cut cut (subst (λ h. Chosen cs cut (h .processes)) same (told .0 (granted t e)))
+
+      pub told-no-cut : not t ≡ true → ¬ IsCut (runIn s) cut
+      told-no-cut e is =
+          let d = told .1 (subst (λ h. Chosen cs cut (h .processes)) (sym same) (cut-chosen cut is)) in
+          let f = denied t e in
+          let z : _≡_ {A = ℕ} 0 1 = cc in omega arith
+
+-- ---- the judging's answer
+
+module _ (s : List ℕ) where
+  pub judged-refused : {r : Reading} (x : Refusal) → Judged s r → r ≡ R.Refused x → Judged s (R.Refused x)
+  judged-refused x j e = subst (Judged s) e j
+
+  head-is : {r : Reading} (h : Head) → Judged s r → r ≡ R.Accepted h → h ≡ headOf s
+  head-is h (byPass x d) e = absurd (let z : _≡_ {A = ℕ} 0 1 = cc in omega arith)
+  head-is h (byPairing x d w) e = absurd (let z : _≡_ {A = ℕ} 0 1 = cc in omega arith)
+  head-is h (byCircle x d n w) e = absurd (let z : _≡_ {A = ℕ} 0 1 = cc in omega arith)
+  head-is h (byClock x d n m w) e = absurd (let z : _≡_ {A = ℕ} 0 1 = cc in omega arith)
+  head-is h (wholly d n m o) e = let same : headOf s ≡ h = cc in sym same
+
+  pub judged-accepted : {r : Reading} (h : Head) → Judged s r → r ≡ R.Accepted h → (h ≡ headOf s) × RunAccepted s
+  judged-accepted h j e = let same = head-is h j e in (same, subst (λ h. Judged s (R.Accepted h)) same (subst (Judged s) e j))
+
+  pub ready-tables : {cs ps ns ks : List ℕ} {r : Reading} (h : Head) → Ready s cs ps ns ks r → r ≡ R.Accepted h → Tables s cs ps ns ks
+  ready-tables {cs} {ps} {ns} {ks} h w e = subst (Ready s cs ps ns ks) e w
+
+  pub tables-listed : {cs ps ns ks : List ℕ} → Tables s cs ps ns ks → Listed s cs ps
+  tables-listed w = record { read = w .read; index = w .index; long = w .places-long }
