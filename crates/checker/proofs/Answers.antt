@@ -8,11 +8,13 @@ use Rattle.record.specs.declared.Refusal.{Refusal}
 use Rattle.run.specs.declared.Reading.the-variants as R
 use Rattle.run.specs.Judged.{Judged}
 use Rattle.run.proofs.Once.{judged-one}
+use Rattle.condition.specs.Read.{placesIn, readOf}
+use Rattle.condition.specs.Read.Verdict.{refused, accepted}
 use Rattle.checker.specs.declared.Count.{Count}
 use Rattle.checker.specs.declared.Count.the-variants as C
 use Rattle.checker.specs.declared.Verdict.{Verdict}
 use Rattle.checker.specs.declared.Verdict.the-variants as A
-use Rattle.checker.specs.Questions.{RunAccepted, AskedConsistent, AskedMessages}
+use Rattle.checker.specs.Questions.{RunAccepted, ConditionAccepted, AskedConsistent, AskedMessages, AskedSatisfies}
 
 module _ (s : List ℕ) where
   -- a run is refused once, and no accepted run is refused
@@ -58,3 +60,37 @@ module _ (s : List ℕ) where
     messages-one channel (AskedMessages.messages j i g) (AskedMessages.wrongCut k m) = absurd (m i)
     messages-one channel (AskedMessages.messages j i g) (AskedMessages.noChannel k l h) = absurd (omega (arith, g, h))
     messages-one channel (AskedMessages.messages j i g) (AskedMessages.messages k l h) = refl
+
+  module _ (c cut : List ℕ) where
+    same-condition : {x y : Refusal} → readOf c (headOf s) ≡ refused x → readOf c (headOf s) ≡ refused y → x ≡ y
+    same-condition d e = cc
+
+    not-read : {x : Refusal} → readOf c (headOf s) ≡ refused x → ConditionAccepted s c → ⊥
+    not-read d e = let z : _≡_ {A = ℕ} 0 1 = cc in omega arith
+
+    pub satisfies-one : {a b : Verdict} → AskedSatisfies s c cut a → AskedSatisfies s c cut b → a ≡ b
+    satisfies-one (AskedSatisfies.runRefused x j) (AskedSatisfies.runRefused y k) = ap A.Refused (same-refusal j k)
+    satisfies-one (AskedSatisfies.runRefused x j) (AskedSatisfies.conditionRefused y k e) = absurd (not-both j k)
+    satisfies-one (AskedSatisfies.runRefused x j) (AskedSatisfies.wrongCut k e m) = absurd (not-both j k)
+    satisfies-one (AskedSatisfies.runRefused x j) (AskedSatisfies.yes k e u) = absurd (not-both j k)
+    satisfies-one (AskedSatisfies.runRefused x j) (AskedSatisfies.no k e l u) = absurd (not-both j k)
+    satisfies-one (AskedSatisfies.conditionRefused x j d) (AskedSatisfies.runRefused y k) = absurd (not-both k j)
+    satisfies-one (AskedSatisfies.conditionRefused x j d) (AskedSatisfies.conditionRefused y k e) = ap A.Refused (same-condition d e)
+    satisfies-one (AskedSatisfies.conditionRefused x j d) (AskedSatisfies.wrongCut k e m) = absurd (not-read d e)
+    satisfies-one (AskedSatisfies.conditionRefused x j d) (AskedSatisfies.yes k e u) = absurd (not-read d e)
+    satisfies-one (AskedSatisfies.conditionRefused x j d) (AskedSatisfies.no k e l u) = absurd (not-read d e)
+    satisfies-one (AskedSatisfies.wrongCut j d n) (AskedSatisfies.runRefused y k) = absurd (not-both k j)
+    satisfies-one (AskedSatisfies.wrongCut j d n) (AskedSatisfies.conditionRefused y k e) = absurd (not-read e d)
+    satisfies-one (AskedSatisfies.wrongCut j d n) (AskedSatisfies.wrongCut k e m) = refl
+    satisfies-one (AskedSatisfies.wrongCut j d n) (AskedSatisfies.yes k e u) = absurd (n (u .isCut))
+    satisfies-one (AskedSatisfies.wrongCut j d n) (AskedSatisfies.no k e l u) = absurd (n l)
+    satisfies-one (AskedSatisfies.yes j d t) (AskedSatisfies.runRefused y k) = absurd (not-both k j)
+    satisfies-one (AskedSatisfies.yes j d t) (AskedSatisfies.conditionRefused y k e) = absurd (not-read e d)
+    satisfies-one (AskedSatisfies.yes j d t) (AskedSatisfies.wrongCut k e m) = absurd (m (t .isCut))
+    satisfies-one (AskedSatisfies.yes j d t) (AskedSatisfies.yes k e u) = refl
+    satisfies-one (AskedSatisfies.yes j d t) (AskedSatisfies.no k e l u) = absurd (u t)
+    satisfies-one (AskedSatisfies.no j d i t) (AskedSatisfies.runRefused y k) = absurd (not-both k j)
+    satisfies-one (AskedSatisfies.no j d i t) (AskedSatisfies.conditionRefused y k e) = absurd (not-read e d)
+    satisfies-one (AskedSatisfies.no j d i t) (AskedSatisfies.wrongCut k e m) = absurd (m i)
+    satisfies-one (AskedSatisfies.no j d i t) (AskedSatisfies.yes k e u) = absurd (t u)
+    satisfies-one (AskedSatisfies.no j d i t) (AskedSatisfies.no k e l u) = refl

@@ -3,3 +3,4 @@ pub mod Answers
 pub mod Once
 pub mod Demands
 pub mod Cuts
+pub mod Conditions

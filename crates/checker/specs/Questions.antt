@@ -4,6 +4,7 @@ use mathlib.Core.List.{List}
 use Prim.Native.Nat.{ℕ, _≤_, _<_}
 use lib.ListN.{length, getD}
 use Rattle.model.specs.Cut.{at, IsCut, Consistent, inTransit}
+use Rattle.model.specs.Clause.{Satisfies}
 use Rattle.record.specs.Record.{headOf}
 use Rattle.record.specs.Refusal.{Reason, number, refusal}
 use Rattle.record.specs.declared.File.the-variants.{Run}
@@ -11,6 +12,8 @@ use Rattle.record.specs.declared.Refusal.{Refusal}
 use Rattle.run.specs.declared.Reading.the-variants as R
 use Rattle.run.specs.Judged.{Judged}
 use Rattle.run.specs.Tables.{runIn}
+use Rattle.condition.specs.Read.{placesIn, readOf, clausesIn}
+use Rattle.condition.specs.Read.Verdict.{refused, accepted}
 use Rattle.checker.specs.declared.Count.{Count}
 use Rattle.checker.specs.declared.Count.the-variants as C
 use Rattle.checker.specs.declared.Verdict.{Verdict}
@@ -25,6 +28,10 @@ pub record Chosen (counts cut : List ℕ) (n : ℕ) : Type 0 where
 -- the whole run is accepted
 abbrev pub RunAccepted : List ℕ → Type 0
 RunAccepted s = Judged s (R.Accepted (headOf s))
+
+-- and the condition is, beside the run's head
+abbrev pub ConditionAccepted : List ℕ → List ℕ → Type 0
+ConditionAccepted s c = readOf c (headOf s) ≡ accepted (placesIn (readOf c (headOf s)))
 
 -- 16 and 17, which have no record
 abbrev pub noCut : Refusal
@@ -45,3 +52,10 @@ module _ (s cut : List ℕ) where
     wrongCut : RunAccepted s → ¬ IsCut (runIn s) cut → AskedMessages channel (C.Refused noCut)
     noChannel : RunAccepted s → IsCut (runIn s) cut → headOf s .channels ≤ channel → AskedMessages channel (C.Refused noSuchChannel)
     messages : RunAccepted s → IsCut (runIn s) cut → channel < headOf s .channels → AskedMessages channel (C.Messages (length (inTransit (runIn s) cut channel)))
+
+pub data AskedSatisfies (s c cut : List ℕ) : Verdict → Type 0 where
+  runRefused : (x : Refusal) → Judged s (R.Refused x) → AskedSatisfies s c cut (A.Refused x)
+  conditionRefused : (x : Refusal) → RunAccepted s → readOf c (headOf s) ≡ refused x → AskedSatisfies s c cut (A.Refused x)
+  wrongCut : RunAccepted s → ConditionAccepted s c → ¬ IsCut (runIn s) cut → AskedSatisfies s c cut (A.Refused noCut)
+  yes : RunAccepted s → ConditionAccepted s c → Satisfies (runIn s) (clausesIn c (headOf s)) cut → AskedSatisfies s c cut A.Yes
+  no : RunAccepted s → ConditionAccepted s c → IsCut (runIn s) cut → ¬ Satisfies (runIn s) (clausesIn c (headOf s)) cut → AskedSatisfies s c cut A.No

@@ -1,6 +1,8 @@
-// The questions about a given cut. Each call judges the whole run first, and only then looks at the cut.
+// The questions about a given cut. Each call judges the whole run first, then the condition, and only then looks at the cut.
 use crate::Count;
 use crate::Verdict;
+use condition::pass::read_condition;
+use cut::Behind;
 use cut::clocks::consistent;
 use cut::transit::tally_for;
 use record::File;
@@ -11,16 +13,19 @@ use record::reasons::refusal_of;
 use run::Reading;
 use run::judging::judge_run;
 use run::states::channel_at;
+use search::movers::clause_mover;
 ghost use mathlib.Core.Path.{_≡_};
 ghost use mathlib.Core.Logic.{_↔_};
 ghost use mathlib.Core.Bool.{true};
 ghost use Prim.Native.Nat.{_≤_, _<_};
 ghost use lib.ListN.{length};
 ghost use Rattle.model.specs.Cut.{IsCut, Clocks, inTransit};
+ghost use Rattle.model.specs.Clause.{Satisfies};
 ghost use Rattle.record.specs.Record.{headOf};
-ghost use Rattle.run.specs.Tables.{runIn, clockIn, Listed};
+ghost use Rattle.run.specs.Tables.{runIn, clockIn, Listed, Tables};
 ghost use Rattle.cut.specs.Lent.{Lent};
-ghost use Rattle.checker.specs.Questions.{Chosen, RunAccepted, AskedConsistent, AskedMessages};
+ghost use Rattle.search.specs.Search.{Given, clausesFor};
+ghost use Rattle.checker.specs.Questions.{Chosen, RunAccepted, AskedConsistent, AskedMessages, AskedSatisfies};
 
 // A cut names one state of each process.
 pub fn cut_is(counts: &[u16], cut: &[u16], n: u16) -> bool
@@ -133,6 +138,109 @@ pub fn messages_on(run: &[u8], cut: &[u16], channel: u16) -> Count
         Reading::Refused(refusal) => Count::Refused(refusal),
         Reading::Accepted(head) => {
             messages_in(run, &counts, &places, &partners, cut, channel, head)
+        }
+    }
+}
+
+// Every clause holds at the cut, and the cut is consistent.
+fn satisfied(
+    run: &[u8],
+    counts: &[u16],
+    places: &[u16],
+    partners: &[u16],
+    clocks: &[u16],
+    cond: &[u8],
+    clauses: &[u16],
+    k: u16,
+    cut: &[u16],
+) -> bool
+    requires { ⌜ Given (now run) (now cond) (now counts) (now places) (now partners) (now clocks) (now clauses) k × IsCut (runIn (now run)) (now cut) ⌝ }
+    ensures { λ r. ⌜ (r ≡ true) ↔ Satisfies (runIn (now (run .entry))) (clausesFor (now (run .entry)) (now (cond .entry))) (now (cut .entry)) ⌝ }
+{
+    let mut i: usize = 0;
+    while i < k as usize {
+        let named = clause_mover(run, places, partners, cond, clauses[i] as usize, cut);
+        let Behind::Nobody = named else {
+            return false;
+        };
+        i += 1;
+    }
+    consistent(clocks, cut)
+}
+
+// Of an accepted run and an accepted condition: 16, or the answer.
+fn satisfies_at(
+    run: &[u8],
+    counts: &[u16],
+    places: &[u16],
+    partners: &[u16],
+    clocks: &[u16],
+    cond: &[u8],
+    clauses: &[u16],
+    k: u16,
+    cut: &[u16],
+    head: Head,
+) -> Verdict
+    requires { ⌜ Given (now run) (now cond) (now counts) (now places) (now partners) (now clocks) (now clauses) k × RunAccepted (now run) × (head ≡ headOf (now run)) ⌝ }
+    ensures { λ r. ⌜ AskedSatisfies (now (run .entry)) (now (cond .entry)) (now (cut .entry)) r ⌝ }
+{
+    if !cut_is(counts, cut, head.processes) {
+        return Verdict::Refused(refusal_of(File::Run, CUT, 0));
+    }
+    if satisfied(run, counts, places, partners, clocks, cond, clauses, k, cut) {
+        return Verdict::Yes;
+    }
+    Verdict::No
+}
+
+// Of an accepted run: the condition's refusal, or what follows it.
+fn satisfies_in(
+    run: &[u8],
+    counts: &[u16],
+    places: &[u16],
+    partners: &[u16],
+    clocks: &[u16],
+    cond: &[u8],
+    cut: &[u16],
+    head: Head,
+) -> Verdict
+    requires { ⌜ Tables (now run) (now counts) (now places) (now partners) (now clocks) × RunAccepted (now run) × (head ≡ headOf (now run)) ⌝ }
+    ensures { λ r. ⌜ AskedSatisfies (now (run .entry)) (now (cond .entry)) (now (cut .entry)) r ⌝ }
+{
+    let mut clauses = [0u16; 32];
+    let reading = read_condition(cond, head, &mut clauses);
+    match reading {
+        condition::Reading::Refused(refusal) => Verdict::Refused(refusal),
+        condition::Reading::Accepted(k) => {
+            satisfies_at(
+                run,
+                counts,
+                places,
+                partners,
+                clocks,
+                cond,
+                &clauses,
+                k,
+                cut,
+                head,
+            )
+        }
+    }
+}
+
+// Whether the cut is consistent and every clause of the condition holds there.
+pub fn satisfies(run: &[u8], cond: &[u8], cut: &[u16]) -> Verdict
+    ensures { λ r. ⌜ AskedSatisfies (now (run .entry)) (now (cond .entry)) (now (cut .entry)) r ⌝ }
+{
+    let mut counts = [0u16; 8];
+    let mut places = [0u16; 4096];
+    let mut partners = [0u16; 4096];
+    let mut clocks = [0u16; 32768];
+    let reading = judge_run(run, &mut counts, &mut places, &mut partners, &mut clocks);
+    match reading {
+        Reading::Refused(refusal) => Verdict::Refused(refusal),
+        Reading::Accepted(head) => {
+            satisfies_in(run, &counts, &places, &partners, &clocks, cond, cut, head)
         }
     }
 }

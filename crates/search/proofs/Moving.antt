@@ -44,6 +44,20 @@ map-each f P [] d w k m = absurd (List·Memᴰ·not-nil m)
 map-each f P (x ∷ l) d w k (List·Memᴰ·head e) = subst P (sym e) (w 0 (omega arith))
 map-each f P (x ∷ l) d w k (List·Memᴰ·tail m) = map-each f P l d (λ j h. w (suc j) (omega arith)) k m
 
+-- ---- what the test of one clause tells
+
+pub tested-holds : {r : Run} {cut : List ℕ} {x : Clause} {b : Behind} → b ≡ Nobody → Tested r cut x b → T (holds r cut x)
+tested-holds e (Tested.true t) = t
+tested-holds e (Tested.localFalse i v o x a h n) = absurd (let z : _≡_ {A = ℕ} 0 1 = cc in omega arith)
+tested-holds e (Tested.sender i t a h n w) = absurd (let z : _≡_ {A = ℕ} 0 1 = cc in omega arith)
+tested-holds e (Tested.receiver i t a h n w) = absurd (let z : _≡_ {A = ℕ} 0 1 = cc in omega arith)
+
+pub tested-fails : {r : Run} {cut : List ℕ} {x : Clause} {b : Behind} {p : ℕ} → b ≡ Process p → Tested r cut x b → ¬ T (holds r cut x)
+tested-fails e (Tested.true t) = absurd (let z : _≡_ {A = ℕ} 0 1 = cc in omega arith)
+tested-fails e (Tested.localFalse i v o x a h n) = n
+tested-fails e (Tested.sender i t a h n w) = n
+tested-fails e (Tested.receiver i t a h n w) = n
+
 module _ {s c cs ps ns ks qs : List ℕ} {k : ℕ} (g : Given s c cs ps ns ks qs k) where
   abbrev r : Run
   r = runIn s
@@ -64,32 +78,26 @@ module _ {s c cs ps ns ks qs : List ℕ} {k : ℕ} (g : Given s c cs ps ns ks qs
   pub few-clauses : k ≤ 32
   few-clauses = omega (arith, g .counted, condition-known c (headOf s) (placesIn (readOf c (headOf s))) (g .read) .few)
 
-  clause-in : (j : ℕ) → j < k → List·Memᴰ (clauseAt c (getD qs j 0)) (clausesFor s c)
+  pub clause-in : (j : ℕ) → j < k → List·Memᴰ (clauseAt c (getD qs j 0)) (clausesFor s c)
   unfolding clausesIn clausesOf
   clause-in j h = rw (g .placed j h) (map-mem (clauseAt c) (placesIn (readOf c (headOf s))) j 0 (omega (arith, g .counted)))
 
-  module _ (cut : List ℕ) (is : IsCut r cut) (low : Lowest r (clausesFor s c) cut) where
-    every-clause : ((j : ℕ) → j < k → T (holds r cut (clauseAt c (getD qs j 0)))) → (x : Clause) → List·Memᴰ x (clausesFor s c) → T (holds r cut x)
-    unfolding clausesIn clausesOf
-    every-clause w = map-each (clauseAt c) (λ x. T (holds r cut x)) (placesIn (readOf c (headOf s))) 0
-        (λ j h. let l : j < k = omega (arith, g .counted) in subst (λ q. T (holds r cut (clauseAt c q))) (g .placed j l) (w j l))
+  pub every-clause : (cut : List ℕ) → ((j : ℕ) → j < k → T (holds r cut (clauseAt c (getD qs j 0)))) → (x : Clause) → List·Memᴰ x (clausesFor s c) → T (holds r cut x)
+  unfolding clausesIn clausesOf
+  every-clause cut w = map-each (clauseAt c) (λ x. T (holds r cut x)) (placesIn (readOf c (headOf s))) 0
+      (λ j h. let l : j < k = omega (arith, g .counted) in subst (λ q. T (holds r cut (clauseAt c q))) (g .placed j l) (w j l))
 
+  module _ (cut : List ℕ) (is : IsCut r cut) (low : Lowest r (clausesFor s c) cut) where
     -- a false clause
     pub moved-clause : (j : ℕ) → j < k → {b : Behind} {p : ℕ} → b ≡ Process p → Tested r cut (clauseAt c (getD qs j 0)) b → Moved s c ks cut b
     moved-clause j h {b} {p} e t =
         let (a, m) = tested-moves r (clausesFor s c) cut (clauseAt c (getD qs j 0)) linear low (clause-in j h) b p e t in
         subst (Moved s c ks cut) (sym e) (process p a m)
 
-    pub tested-holds : {x : Clause} {b : Behind} → b ≡ Nobody → Tested r cut x b → T (holds r cut x)
-    tested-holds e (Tested.true t) = t
-    tested-holds e (Tested.localFalse i v o x a h n) = absurd (let z : _≡_ {A = ℕ} 0 1 = cc in omega arith)
-    tested-holds e (Tested.sender i t a h n w) = absurd (let z : _≡_ {A = ℕ} 0 1 = cc in omega arith)
-    tested-holds e (Tested.receiver i t a h n w) = absurd (let z : _≡_ {A = ℕ} 0 1 = cc in omega arith)
-
     -- all clauses hold: the clocks decide
     pub moved-clocks : (b : Behind) → b ≡ tooLow (clockIn ks) cut → ((j : ℕ) → j < k → T (holds r cut (clauseAt c (getD qs j 0)))) → Moved s c ks cut b
     unfolding Under Moves
-    moved-clocks Nobody e w = nobody (every-clause w) (nobody-by-clock (clockIn ks) cut r (g .tables .clocks) is (sym e))
+    moved-clocks Nobody e w = nobody (every-clause cut w) (nobody-by-clock (clockIn ks) cut r (g .tables .clocks) is (sym e))
     moved-clocks (Process p) e w =
         let (j, l) = too-low-found (clockIn ks) cut p (sym e) in
         process p (omega (arith, l .process, is .size))

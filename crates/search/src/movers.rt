@@ -75,7 +75,7 @@ fn channel_mover(run: &[u8], places: &[u16], partners: &[u16], cut: &[u16], clau
 }
 
 // The clause whose record stands at a place.
-fn clause_mover(
+pub fn clause_mover(
     run: &[u8],
     places: &[u16],
     partners: &[u16],

@@ -74,7 +74,7 @@ loop-again c =
     let a = c .before .before .before .before .before .before .before .before .before .before .before .before .before .before .args in
     let l = c .before .before .before .before .before .loop in
     let few = few-clauses (r .0) in
-    (omega arith, λ j h. ⊎-elim (λ e. subst (λ j. T (holds (runIn (a .run .now)) (a .cut .now) (clauseAt (a .cond .now) (getD (a .clauses .now) j 0)))) (sym e) (tested-holds (r .0) (a .cut .now) (r .1) (r .2) (c .enum-told .given .1) (c .before .before .clause-mover .ensures))) (λ g. l .inv .1 j g) (eq-or-lt-of-le (below h)))
+    (omega arith, λ j h. ⊎-elim (λ e. subst (λ j. T (holds (runIn (a .run .now)) (a .cut .now) (clauseAt (a .cond .now) (getD (a .clauses .now) j 0)))) (sym e) (tested-holds (c .enum-told .given .1) (c .before .before .clause-mover .ensures))) (λ g. l .inv .1 j g) (eq-or-lt-of-le (below h)))
 
 too-low-requires : tie.Need-too-low-requires Inv-loop μ-loop
 too-low-requires c κs = let r = c .before .before .before .before .before .before .before .before .before .before .pre in (r .0 .tables .clocks-long, in-table (r .0) _ (r .1) (r .2))
