@@ -4,3 +4,4 @@ pub mod Waiting
 pub mod Passed
 pub mod First
 pub mod Low
+pub mod Received

@@ -1,3 +1,4 @@
 pub mod Tally
 pub mod Lent
 pub mod Clocks
+pub mod Early

@@ -1,6 +1,7 @@
 // At a cut of an accepted run: who is behind another's clock, what is in transit on a channel, and whether a clause holds. Every answer comes from the tables.
 pub mod clocks;
 pub mod compare;
+pub mod early;
 pub mod local;
 pub mod tests;
 pub mod transit;

@@ -1,0 +1,62 @@
+// 18: a message that is received up to the cut and sent past it. This test goes by messages, where `clocks` goes by clocks.
+use model::Event;
+use run::states::channel_at;
+use run::states::state_at;
+ghost use mathlib.Core.Path.{_≡_};
+ghost use Prim.Native.Nat.{_<_};
+ghost use Rattle.model.specs.Run.{IsState, processes};
+ghost use Rattle.model.specs.Cut.{IsCut};
+ghost use Rattle.run.specs.Tables.{runIn};
+ghost use Rattle.cut.specs.Early.{PastIs, EarlyInIs, EarlyIs};
+ghost use Rattle.cut.specs.Lent.{Lent};
+
+// Whether state k of process p receives what is sent past the cut. The partner of a receive is the state that the send leads into.
+fn sent_past(run: &[u8], places: &[u16], partners: &[u16], cut: &[u16], p: u16, k: u16) -> bool
+    requires { ⌜ Lent (now run) (now places) (now partners) × IsCut (runIn (now run)) (now cut) × IsState (runIn (now run)) p k ⌝ }
+    ensures { λ r. ⌜ PastIs (runIn (now (run .entry))) (now (cut .entry)) p k r ⌝ }
+{
+    let slot = 512 * (p as usize) + (k as usize - 1);
+    let state = state_at(run, places[slot] as usize);
+    let event = state.event;
+    match event {
+        Event::Start => false,
+        Event::Internal => false,
+        Event::Send(_) => false,
+        Event::Receive(m) => {
+            let from = channel_at(run, m.channel).from as usize;
+            cut[from] < partners[slot]
+        }
+    }
+}
+
+// Whether one of states 1 to cut[p] of process p does.
+fn early_in(run: &[u8], places: &[u16], partners: &[u16], cut: &[u16], p: u16) -> bool
+    requires { ⌜ Lent (now run) (now places) (now partners) × IsCut (runIn (now run)) (now cut) × (p < processes (runIn (now run))) ⌝ }
+    ensures { λ r. ⌜ EarlyInIs (runIn (now (run .entry))) (now (cut .entry)) p r ⌝ }
+{
+    let row = p as usize;
+    let last = cut[row];
+    let mut k: u16 = 1;
+    while k <= last {
+        if sent_past(run, places, partners, cut, p, k) {
+            return true;
+        }
+        k += 1;
+    }
+    false
+}
+
+// Whether one of any process does.
+pub fn has_early(run: &[u8], places: &[u16], partners: &[u16], cut: &[u16]) -> bool
+    requires { ⌜ Lent (now run) (now places) (now partners) × IsCut (runIn (now run)) (now cut) ⌝ }
+    ensures { λ r. ⌜ EarlyIs (runIn (now (run .entry))) (now (cut .entry)) r ⌝ }
+{
+    let mut p: usize = 0;
+    while p < cut.len() {
+        if early_in(run, places, partners, cut, p as u16) {
+            return true;
+        }
+        p += 1;
+    }
+    false
+}
