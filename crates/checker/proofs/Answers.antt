@@ -8,7 +8,7 @@ use Rattle.record.specs.declared.Refusal.{Refusal}
 use Rattle.run.specs.declared.Reading.the-variants as R
 use Rattle.run.specs.Judged.{Judged}
 use Rattle.run.proofs.Once.{judged-one}
-use Rattle.condition.specs.Read.{placesIn, readOf}
+use Rattle.condition.specs.Read.{readOf}
 use Rattle.condition.specs.Read.Verdict.{refused, accepted}
 use Rattle.checker.specs.declared.Count.{Count}
 use Rattle.checker.specs.declared.Count.the-variants as C

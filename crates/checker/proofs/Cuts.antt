@@ -1,5 +1,5 @@
 -- What the tables of an accepted run say of a given cut.
-use mathlib.Core.Path.{_≡_, refl, sym, ap, _∙_, subst}
+use mathlib.Core.Path.{_≡_, refl, sym, _∙_, subst}
 use mathlib.Core.Logic.{_↔_}
 use mathlib.Core.Bool.{Bool, true, false, not, _||_}
 use mathlib.Core.List.{List}
@@ -7,8 +7,7 @@ use Prim.Native.Nat.{ℕ, zero, suc, _≤_, _<_}
 use native.Mathlib.Omega.{arith}
 use borrow.Author.Tests.{eqb-true, eqb-false, ltb-true, ltb-false}
 use lib.Dec.{eqb, ltb}
-use lib.ListN.{length, getD}
-use Rattle.model.specs.Run.{processes, count, IsState}
+use Rattle.model.specs.Run.{processes}
 use Rattle.model.specs.Cut.{at, IsCut}
 use Rattle.record.specs.Record.{headOf}
 use Rattle.record.specs.declared.Head.{Head}

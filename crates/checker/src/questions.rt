@@ -28,7 +28,7 @@ ghost use Rattle.search.specs.Search.{Given, clausesFor};
 ghost use Rattle.checker.specs.Questions.{Chosen, RunAccepted, AskedConsistent, AskedMessages, AskedSatisfies};
 
 // A cut names one state of each process.
-pub fn cut_is(counts: &[u16], cut: &[u16], n: u16) -> bool
+fn cut_is(counts: &[u16], cut: &[u16], n: u16) -> bool
     requires { ⌜ (length (now counts) ≡ 8) × (n ≤ 8) ⌝ }
     ensures { λ r. ⌜ (r ≡ true) ↔ Chosen (now (counts .entry)) (now (cut .entry)) n ⌝ }
 {

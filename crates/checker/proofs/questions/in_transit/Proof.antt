@@ -1,8 +1,7 @@
 use borrow.Author.Needs.{needs}
 use native.Mathlib.Omega.{arith}
-use mathlib.Core.Path.{_≡_, refl, sym, ap, _∙_, subst}
-use Prim.Native.Nat.{ℕ, _≤_, _<_}
-use lib.ListN.{length}
+use mathlib.Core.Path.{sym, ap, _∙_, subst}
+use Prim.Native.Nat.{_≤_, _<_}
 use Rattle.model.specs.Run.{processes, count, channel}
 use Rattle.model.specs.Cut.{at, between, inTransit}
 use Rattle.run.specs.Tables.{runIn}

@@ -1,7 +1,6 @@
 use borrow.Author.Needs.{needs}
 use native.Mathlib.Omega.{arith}
-use mathlib.Core.Path.{_≡_, refl, sym, ap, _∙_, subst}
-use Prim.Native.Nat.{ℕ, _≤_, _<_}
+use mathlib.Core.Path.{ap}
 use Rattle.run.proofs.Listed.{listed-eight}
 use Rattle.checker.specs.Questions.{AskedMessages}
 use Rattle.checker.proofs.Cuts.{few-said, told-cut, told-no-cut}

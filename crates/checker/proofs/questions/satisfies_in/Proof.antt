@@ -1,5 +1,4 @@
 use borrow.Author.Needs.{needs}
-use mathlib.Core.Path.{_≡_, refl, sym, ap, _∙_, subst}
 use Rattle.checker.specs.Questions.{AskedSatisfies}
 use Rattle.checker.proofs.Conditions.{condition-refused, condition-given}
 use Rattle.checker.proofs.questions.satisfies_in.Statement.{statement}
