@@ -3,11 +3,11 @@ use mathlib.Core.Path.{_≡_}
 use mathlib.Core.List.{List}
 use Prim.Native.Nat.{ℕ, _≤_, _<_}
 use lib.ListN.{length, getD}
-use Rattle.model.specs.Cut.{at}
+use Rattle.model.specs.Cut.{at, ByMessage}
 use Rattle.model.specs.Clause.{Clause, Satisfies, First}
 use Rattle.record.specs.Record.{headOf}
 use Rattle.record.specs.Refusal.{number, refusal}
-use Rattle.record.specs.Refusal.Reason.{noRoom}
+use Rattle.record.specs.Refusal.Reason.{noRoom, early}
 use Rattle.record.specs.declared.File.the-variants.{Run}
 use Rattle.record.specs.declared.Refusal.{Refusal}
 use Rattle.run.specs.Tables.{runIn}
@@ -33,10 +33,13 @@ pub record Wrote (cut lent lent′ : List ℕ) : Type 0 where
 abbrev pub clauses : List ℕ → List ℕ → List Clause
 clauses s c = clausesIn c (headOf s)
 
--- in this order: the run is refused, the condition is, the lent places are too few; found, none
+-- in this order: the run is refused, the condition is, the lent places are too few; none, the cut has a receive whose send is past it, found
 pub data Answered (s c lent lent′ : List ℕ) : Answer → Type 0 where
   runRefused : (x : Refusal) → Judged s (R.Refused x) → lent′ ≡ lent → Answered s c lent lent′ (A.Refused x)
   condRefused : (x : Refusal) → Judged s (R.Accepted (headOf s)) → readOf c (headOf s) ≡ refused x → lent′ ≡ lent → Answered s c lent lent′ (A.Refused x)
   few : Both s c → length lent < headOf s .processes → lent′ ≡ lent → Answered s c lent lent′ (A.Refused (refusal Run (number noRoom) 0))
-  found : Both s c → headOf s .processes ≤ length lent → (cut : List ℕ) → First (runIn s) (clauses s c) cut → Wrote cut lent lent′ → Answered s c lent lent′ A.Found
   nowhere : Both s c → headOf s .processes ≤ length lent → ((d : List ℕ) → ¬ Satisfies (runIn s) (clauses s c) d) → lent′ ≡ lent → Answered s c lent lent′ A.Nowhere
+  tooEarly : Both s c → headOf s .processes ≤ length lent → (cut : List ℕ) → First (runIn s) (clauses s c) cut → ¬ ByMessage (runIn s) cut → lent′ ≡ lent
+      → Answered s c lent lent′ (A.Refused (refusal Run (number early) 0))
+  found : Both s c → headOf s .processes ≤ length lent → (cut : List ℕ) → First (runIn s) (clauses s c) cut → ByMessage (runIn s) cut → Wrote cut lent lent′
+      → Answered s c lent lent′ A.Found

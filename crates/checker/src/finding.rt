@@ -2,8 +2,10 @@
 use crate::Answer;
 use condition::Reading as ConditionReading;
 use condition::pass::read_condition;
+use cut::early::has_early;
 use record::File;
 use record::Head;
+use record::reasons::EARLY;
 use record::reasons::NO_ROOM;
 use record::reasons::refusal_of;
 use run::Reading;
@@ -33,7 +35,7 @@ fn write(cut: &[u16], lent: &mut [u16])
     }
 }
 
-// The cut is sought in a row of its own, so that no lent place changes unless it is found.
+// The cut is sought in a row of its own, so that no lent place changes unless it is found; 18 comes last.
 fn search_in(
     run: &[u8],
     counts: &[u16],
@@ -53,6 +55,9 @@ fn search_in(
     let Searched::Found = answer else {
         return Answer::Nowhere;
     };
+    if has_early(run, places, partners, cut) {
+        return Answer::Refused(refusal_of(File::Run, EARLY, 0));
+    }
     write(cut, lent);
     Answer::Found
 }
