@@ -77,60 +77,51 @@ module _ (s : List ℕ) (read : readOf s ≡ accepted (statesOf s)) where
       less : k < suc j → k ≤ j
       less g = omega arith
 
+  -- a message at an earlier place is by the same process: f is what an event sends, or receives, and end the channel's end that may
+  same-process : (f : Event → Option Message) (end : ℕ → ℕ) → ((i k : ℕ) (m : Message) → f (into r i k) ≡ some m → end (m .channel) ≡ i)
+      → (i j p k : ℕ) → IsState r i j → IsState r p k → placeOf s i j < placeOf s p k → T (sameMessage (f (into r i j)) (f (into r p k)))
+      → (j < k) × T (sameMessage (f (into r p j)) (f (into r p k)))
+  same-process f end by i j p k t′ t h u =
+      let (m, n, a, b, x, y) = same-parts (f (into r i j)) (f (into r p k)) u in
+      let same : i ≡ p = sym (by i j m a) ∙ ap end x ∙ by p k n b in
+      let h′ : placeOf s p j < placeOf s p k = subst (λ i. placeOf s i j < placeOf s p k) same h in
+      (earlier p j k (subst (λ i. IsState r i j) same t′) t h′, subst (λ i. T (sameMessage (f (into r i j)) (f (into r p k)))) same u)
+
   pub clear-paired : (p k : ℕ) → IsState r p k → Clear r p k → ¬ Unpaired s p k
   clear-paired p k t w (secondSend i j t′ h u) =
-      let (m, n, a, b, x, y) = same-parts (sending (into r i j)) (sending (into r p k)) u in
-      let d = sides s read in
-      let one = d .sender i j m (sending-send (into r i j) m a) .1 in
-      let two = d .sender p k n (sending-send (into r p k) n b) .1 in
-      let same : i ≡ p = sym one ∙ ap (λ c. channel r c .from) x ∙ two in
-      let h′ : placeOf s p j < placeOf s p k = subst (λ i. placeOf s i j < placeOf s p k) same h in
-      w .newSend j (earlier p j k (subst (λ i. IsState r i j) same t′) t h′) (subst (λ i. T (sameMessage (sending (into r i j)) (sending (into r p k)))) same u)
+      let (g, v) = same-process sending (λ c. channel r c .from) (λ i k m a. sides s read .sender i k m (sending-send (into r i k) m a) .1) i j p k t′ t h u in
+      w .newSend j g v
   clear-paired p k t w (secondReceive i j t′ h u) =
-      let (m, n, a, b, x, y) = same-parts (receiving (into r i j)) (receiving (into r p k)) u in
-      let d = sides s read in
-      let one = d .receiver i j m (receiving-receive (into r i j) m a) .1 in
-      let two = d .receiver p k n (receiving-receive (into r p k) n b) .1 in
-      let same : i ≡ p = sym one ∙ ap (λ c. channel r c .to) x ∙ two in
-      let h′ : placeOf s p j < placeOf s p k = subst (λ i. placeOf s i j < placeOf s p k) same h in
-      w .newReceive j (earlier p j k (subst (λ i. IsState r i j) same t′) t h′) (subst (λ i. T (sameMessage (receiving (into r i j)) (receiving (into r p k)))) same u)
+      let (g, v) = same-process receiving (λ c. channel r c .to) (λ i k m a. sides s read .receiver i k m (receiving-receive (into r i k) m a) .1) i j p k t′ t h u in
+      w .newReceive j g v
   clear-paired p k t w (noSend m e v) = let (i, l, q) = w .hasSend m e in v i l q
 
   -- ---- no fault: the run is known, and the partners are right
 
-  module _ (clear : (p k : ℕ) → IsState r p k → Clear r p k) where
-    once : (i k k′ : ℕ) (m m′ : Message) → into r i k ≡ Send m → into r i k′ ≡ Send m′ → m .channel ≡ m′ .channel → m .number ≡ m′ .number → k ≡ k′
-    once i k k′ m m′ e e′ x y = elim (ℕ-discrete k k′) [
-      | yes z ↦ z
-      | no z ↦ absurd (⊎-elim
-          (λ h. clear i k′ (sent-there e′) .newSend k h (parts-same m m′ (ap sending e) (ap sending e′) x y))
-          (λ h. clear i k (sent-there e) .newSend k′ (other z h) (parts-same m′ m (ap sending e′) (ap sending e) (sym x) (sym y)))
-          (le-or-lt (suc k) k′))
-    ]
-      where
-        other : k ≢ k′ → k′ < suc k → k′ < k
-        other z h = ⊎-elim (λ e. absurd (z (sym e))) (λ g. g) (eq-or-lt-of-le (less h))
-          where
-            less : k′ < suc k → k′ ≤ k
-            less h = omega arith
+  -- where no earlier state has what a state sends, or receives, one state has it
+  only : (f : Event → Option Message) (i : ℕ) → ((k : ℕ) → IsState r i k → (l : ℕ) → l < k → ¬ T (sameMessage (f (into r i l)) (f (into r i k))))
+      → (k k′ : ℕ) (m m′ : Message) → IsState r i k → IsState r i k′ → f (into r i k) ≡ some m → f (into r i k′) ≡ some m′ → m .channel ≡ m′ .channel → m .number ≡ m′ .number → k ≡ k′
+  only f i new k k′ m m′ t t′ e e′ x y = elim (ℕ-discrete k k′) [
+    | yes z ↦ z
+    | no z ↦ absurd (⊎-elim
+        (λ h. new k′ t′ k h (parts-same m m′ e e′ x y))
+        (λ h. new k t k′ (other z h) (parts-same m′ m e′ e (sym x) (sym y)))
+        (le-or-lt (suc k) k′))
+  ]
+    where
+      other : k ≢ k′ → k′ < suc k → k′ < k
+      other z h = ⊎-elim (λ e. absurd (z (sym e))) (λ g. g) (eq-or-lt-of-le (less h))
+        where
+          less : k′ < suc k → k′ ≤ k
+          less h = omega arith
 
-    taken : (i k k′ : ℕ) (m m′ : Message) → into r i k ≡ Receive m → into r i k′ ≡ Receive m′ → m .channel ≡ m′ .channel → m .number ≡ m′ .number → k ≡ k′
-    taken i k k′ m m′ e e′ x y = elim (ℕ-discrete k k′) [
-      | yes z ↦ z
-      | no z ↦ absurd (⊎-elim
-          (λ h. clear i k′ (received-there e′) .newReceive k h (parts-same m m′ (ap receiving e) (ap receiving e′) x y))
-          (λ h. clear i k (received-there e) .newReceive k′ (other z h) (parts-same m′ m (ap receiving e′) (ap receiving e) (sym x) (sym y)))
-          (le-or-lt (suc k) k′))
-    ]
-      where
-        other : k ≢ k′ → k′ < suc k → k′ < k
-        other z h = ⊎-elim (λ e. absurd (z (sym e))) (λ g. g) (eq-or-lt-of-le (less h))
-          where
-            less : k′ < suc k → k′ ≤ k
-            less h = omega arith
-
-    pub clear-known : Known r
-    clear-known = record { sides = sides s read; once = once; taken = taken; origin = λ j l m e. clear j l (received-there e) .hasSend m e }
+  pub clear-known : ((p k : ℕ) → IsState r p k → Clear r p k) → Known r
+  clear-known clear = record {
+    sides = sides s read;
+    once = λ i k k′ m m′ e e′. only sending i (λ k t. clear i k t .newSend) k k′ m m′ (sent-there e) (sent-there e′) (ap sending e) (ap sending e′);
+    taken = λ i k k′ m m′ e e′. only receiving i (λ k t. clear i k t .newReceive) k k′ m m′ (received-there e) (received-there e′) (ap receiving e) (ap receiving e′);
+    origin = λ j l m e. clear j l (received-there e) .hasSend m e;
+  }
 
   pub met-partnered : Known r → (ns : List ℕ) → Backed r ns → ((p l : ℕ) → IsState r p l → Met r ns p l) → Partnered r ns
   unfolding Backed Met
