@@ -6,8 +6,8 @@ use native.Mathlib.Omega.{arith}
 use Rattle.record.specs.Record.{headOf}
 use Rattle.record.specs.declared.Refusal.{Refusal}
 use Rattle.run.specs.declared.Reading.the-variants as R
-use Rattle.run.specs.Judged.{Judged}
-use Rattle.run.proofs.Once.{judged-one}
+use Rattle.judging.specs.Judged.{Judged}
+use Rattle.judging.proofs.Once.{judged-one}
 use Rattle.condition.specs.Read.{readOf}
 use Rattle.condition.specs.Read.Verdict.{refused, accepted}
 use Rattle.checker.specs.declared.Count.{Count}

@@ -14,8 +14,8 @@ use Rattle.record.specs.declared.Head.{Head}
 use Rattle.record.specs.declared.Refusal.{Refusal}
 use Rattle.run.specs.declared.Reading.{Reading}
 use Rattle.run.specs.declared.Reading.the-variants as R
-use Rattle.run.specs.Judged.{Judged, Ready}
-use Rattle.run.specs.Judged.Judged.{byPass, byPairing, byCircle, byClock, wholly}
+use Rattle.judging.specs.Judged.{Judged, Ready}
+use Rattle.judging.specs.Judged.Judged.{byPass, byPairing, byCircle, byClock, wholly}
 use Rattle.run.specs.Tables.{runIn, Listed, Tables}
 use Rattle.run.proofs.Listed.{ok, processes-are, placed-few, listed-places, listed-count}
 use Rattle.cut.specs.Clocks.{InTable}

@@ -11,9 +11,9 @@ use Rattle.model.proofs.Lists.{le-or-lt}
 use Rattle.model.proofs.Lattice.{first-unique}
 use Rattle.record.specs.Record.{headOf}
 use Rattle.record.specs.declared.Refusal.{Refusal}
-use Rattle.run.specs.Judged.{Judged}
+use Rattle.judging.specs.Judged.{Judged}
 use Rattle.run.specs.declared.Reading.the-variants as R
-use Rattle.run.proofs.Once.{judged-one}
+use Rattle.judging.proofs.Once.{judged-one}
 use Rattle.condition.specs.Read.{readOf}
 use Rattle.condition.specs.Read.Verdict.{refused}
 use Rattle.checker.specs.declared.Answer.{Answer}

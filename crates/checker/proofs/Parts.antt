@@ -9,8 +9,8 @@ use Rattle.record.specs.Record.{headOf}
 use Rattle.record.specs.declared.Head.{Head}
 use Rattle.record.specs.declared.Refusal.{Refusal}
 use Rattle.run.specs.Tables.{runIn, Tables}
-use Rattle.run.specs.Judged.{Judged, Ready}
-use Rattle.run.specs.Judged.Judged.{byPass, byPairing, byCircle, byClock, wholly}
+use Rattle.judging.specs.Judged.{Judged, Ready}
+use Rattle.judging.specs.Judged.Judged.{byPass, byPairing, byCircle, byClock, wholly}
 use Rattle.run.specs.declared.Reading.{Reading}
 use Rattle.run.specs.declared.Reading.the-variants as R
 use Rattle.condition.specs.Read.{Verdict, placesIn, readOf, reading, Passed}

@@ -6,9 +6,3 @@ pub mod Places
 pub mod Accepted
 pub mod Sides
 pub mod Listed
-pub mod Firsts
-pub mod Pairs
-pub mod Partners
-pub mod Once
-pub mod Orders
-pub mod Verdicts

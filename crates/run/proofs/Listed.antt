@@ -12,8 +12,7 @@ use Rattle.record.specs.Record.{headOf, fieldsAt}
 use Rattle.run.specs.States.{eventOf, stateAt, channelAt, placesOf}
 use Rattle.run.specs.Read.{readOf}
 use Rattle.run.specs.Read.Verdict.{accepted}
-use Rattle.run.specs.Tables.{statesOf, runIn, slot, Placed, Listed}
-use Rattle.run.specs.Judged.{placeOf}
+use Rattle.run.specs.Tables.{statesOf, runIn, placeOf, slot, Placed, Listed}
 use Rattle.run.proofs.Laws.{StateOk}
 use Rattle.run.proofs.Index.{counts-at, counts-length}
 use Rattle.run.proofs.Places.{StandsAt, stands, places-grow}

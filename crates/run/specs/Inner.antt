@@ -1,8 +1,6 @@
 -- Words of the contracts of the pass's inner functions; the promises don't use them.
 use mathlib.Core.Path.{_≡_}
-use mathlib.Core.Bool.{cond}
 use mathlib.Core.List.{List}
-use lib.Dec.{ltb}
 use Prim.Native.Nat.{ℕ, _+_, _*_, _<_}
 use lib.ListN.{getD, set}
 use Rattle.record.specs.Refusal.{refusal}
@@ -32,10 +30,3 @@ Noted (R.Channel l) at cs ps cs′ ps′ = (cs′ ≡ cs) × (ps′ ≡ ps)
 Noted (R.State f) at cs ps cs′ ps′ =
     (cs′ ≡ set cs (f .process) (getD cs (f .process) 0 + 1)) × (ps′ ≡ set ps (512 * f .process + getD cs (f .process) 0) at)
 Noted R.End at cs ps cs′ ps′ = (cs′ ≡ cs) × (ps′ ≡ ps)
-
--- the state behind the last one that is done, or 0 where all are
-unfoldable pub nextOf : ℕ → ℕ → ℕ
-nextOf done count = cond (ltb done count) (done + 1) 0
-
-pub record Undone (n : ℕ) (counts done bad : List ℕ) : Type 0 where
-  pub next : (p : ℕ) → p < n → getD bad p 0 ≡ nextOf (getD done p 0) (getD counts p 0)

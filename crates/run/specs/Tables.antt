@@ -24,6 +24,10 @@ statesOf s = placesIn (readOf s)
 unfoldable pub runIn : List ℕ → Run
 runIn s = runOf s (statesOf s)
 
+-- the byte place of state k of process p
+abbrev pub placeOf : List ℕ → ℕ → ℕ → ℕ
+placeOf s p k = getD (placesOf s (statesOf s) p) (k - 1) 0
+
 -- state k of process i has entry 512 i + k - 1 of a table
 abbrev pub slot : ℕ → ℕ → ℕ
 slot i k = 512 * i + (k - 1)

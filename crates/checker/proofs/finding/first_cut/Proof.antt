@@ -1,7 +1,7 @@
 use borrow.Author.Needs.{needs}
 use native.Mathlib.Omega.{arith}
 use mathlib.Core.Path.{_≡_, refl, sym, ap, _∙_, subst}
-use Rattle.run.specs.Judged.{Judged}
+use Rattle.judging.specs.Judged.{Judged}
 use Rattle.run.specs.declared.Reading.the-variants as R
 use Rattle.checker.specs.Answered.Answered.{runRefused}
 use Rattle.checker.proofs.Parts.{head-is}

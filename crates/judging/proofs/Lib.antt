@@ -1,0 +1,6 @@
+pub mod Firsts
+pub mod Pairs
+pub mod Partners
+pub mod Once
+pub mod Orders
+pub mod Verdicts

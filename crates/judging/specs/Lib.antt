@@ -1,0 +1,4 @@
+pub mod Judged
+pub mod Pairing
+pub mod Order
+pub mod Inner

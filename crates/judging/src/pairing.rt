@@ -1,0 +1,243 @@
+// 11: each received message with its send. Within a process the file's order is the order of its states, so a second send or receive is one that an
+// earlier state of the same process made already.
+use crate::First;
+use crate::faults::earliest;
+use model::Event;
+use model::Message;
+use run::pass::clear;
+use run::states::channel_at;
+use run::states::state_at;
+ghost use mathlib.Core.Path.{_≡_};
+ghost use mathlib.Core.Bool.{true, false};
+ghost use Prim.Native.Nat.{_+_, _*_, _≤_, _<_};
+ghost use lib.ListN.{length, getD, replicate};
+ghost use Rattle.model.specs.Run.{count, into, channel, IsState};
+ghost use Rattle.record.specs.Record.{headOf};
+ghost use Rattle.run.specs.Tables.{runIn, Placed, Listed};
+ghost use Rattle.judging.specs.Judged.{PairingJudged};
+ghost use Rattle.judging.specs.Pairing.{carries, Found, entry, Rising, Repeats, Received, Settled, Row, Rows};
+
+// Whether an event sends, or receives, the message.
+fn carries_it(event: Event, sends: bool, message: Message) -> bool
+    ensures { λ r. ⌜ r ≡ carries sends event message ⌝ }
+{
+    match event {
+        Event::Start => false,
+        Event::Internal => false,
+        Event::Send(m) => sends & ((m.channel == message.channel) & (m.number == message.number)),
+        Event::Receive(m) => !sends
+            & ((m.channel == message.channel) & (m.number == message.number)),
+    }
+}
+
+// The first of states low to high of process p that sends, or receives, the message; 0 where none does.
+fn find(
+    run: &[u8],
+    places: &[u16],
+    p: u16,
+    low: u16,
+    high: u16,
+    sends: bool,
+    message: Message,
+) -> u16
+    requires { ⌜ Placed (now run) (now places) × (p < headOf (now run) .processes) × (1 ≤ low) × (high ≤ count (runIn (now run)) p) ⌝ }
+    ensures { λ r. ⌜ Found (runIn (now (run .entry))) p low high sends message r ⌝ }
+{
+    let row = 512 * (p as usize);
+    let mut k = low;
+    while k <= high {
+        let slot = row + (k as usize - 1);
+        let state = state_at(run, places[slot] as usize);
+        let event = state.event;
+        if carries_it(event, sends, message) {
+            return k;
+        }
+        k += 1;
+    }
+    0
+}
+
+// The entry of the marks for what is sent, or received, on a channel.
+fn entry_of(sends: bool, channel: u16) -> usize
+    ensures { λ r. ⌜ r ≡ entry sends channel ⌝ }
+{
+    if sends {
+        return 2 * (channel as usize);
+    }
+    2 * (channel as usize) + 1
+}
+
+// Whether an earlier state sent, or received, the message of state k. Numbers that rise on a channel need no look back: the marks are above all so far.
+fn repeated(
+    run: &[u8],
+    places: &[u16],
+    marks: &mut [u64],
+    p: u16,
+    k: u16,
+    sends: bool,
+    message: Message,
+) -> bool
+    requires { ⌜ Placed (now run) (now places) × IsState (runIn (now run)) p k × (length (now marks) ≡ 32) × (message .channel < 16) × Rising (runIn (now run)) sends p k (now marks) ⌝ }
+    ensures { λ r. ⌜ Repeats (runIn (now (run .entry))) p k sends message (now (marks .entry)) (now (marks .exit)) r ⌝ }
+{
+    let i = entry_of(sends, message.channel);
+    let number = message.number as u64;
+    if marks[i] <= number {
+        marks[i] = number + 1;
+        return false;
+    }
+    find(run, places, p, 1, k - 1, sends, message) != 0
+}
+
+// Where to look for the next send on a channel: behind the last one found.
+fn behind(hint: u16, count: u16) -> u16
+    ensures { λ r. ⌜ 1 ≤ r ⌝ }
+{
+    if hint < count { hint + 1 } else { 1 }
+}
+
+// The state of the channel's sender that sends the message; 0 where none does.
+fn send_of(run: &[u8], counts: &[u16], places: &[u16], hints: &mut [u16], message: Message) -> u16
+    requires { ⌜ Listed (now run) (now counts) (now places) × (length (now hints) ≡ 16) × (message .channel < headOf (now run) .channels) ⌝ }
+    ensures { λ r. ⌜ Found (runIn (now (run .entry))) (channel (runIn (now (run .entry))) (message .channel) .from) 1 (count (runIn (now (run .entry))) (channel (runIn (now (run .entry))) (message .channel) .from)) true message r ⌝ }
+{
+    let c = message.channel as usize;
+    let from = channel_at(run, message.channel).from;
+    let row = from as usize;
+    let count = counts[row];
+    let near = find(
+        run,
+        places,
+        from,
+        behind(hints[c], count),
+        count,
+        true,
+        message,
+    );
+    if near != 0 {
+        hints[c] = near;
+        return near;
+    }
+    find(run, places, from, 1, count, true, message)
+}
+
+// Enters a receive and its send as each other's partner; true where there is no such send.
+fn enter(
+    run: &[u8],
+    counts: &[u16],
+    places: &[u16],
+    partners: &mut [u16],
+    hints: &mut [u16],
+    p: u16,
+    k: u16,
+    message: Message,
+) -> bool
+    requires { ⌜ Listed (now run) (now counts) (now places) × (length (now partners) ≡ 4096) × (length (now hints) ≡ 16) × IsState (runIn (now run)) p k × (into (runIn (now run)) p k ≡ Event.Receive message) ⌝ }
+    ensures { λ r. ⌜ Received (runIn (now (run .entry))) p k (now (partners .entry)) (now (partners .exit)) r ⌝ }
+{
+    let l = send_of(run, counts, places, hints, message);
+    if l == 0 {
+        return true;
+    }
+    let from = channel_at(run, message.channel).from as usize;
+    let other = 512 * from + (l as usize - 1);
+    let own = 512 * (p as usize) + (k as usize - 1);
+    partners[other] = k;
+    partners[own] = l;
+    false
+}
+
+// Judges state k of process p, and enters what it receives; true where it is a second send or receive, or a receive with no send.
+fn settle(
+    run: &[u8],
+    counts: &[u16],
+    places: &[u16],
+    partners: &mut [u16],
+    marks: &mut [u64],
+    hints: &mut [u16],
+    p: u16,
+    k: u16,
+) -> bool
+    requires { ⌜ Listed (now run) (now counts) (now places) × (length (now partners) ≡ 4096) × (length (now marks) ≡ 32) × (length (now hints) ≡ 16) × IsState (runIn (now run)) p k × Rising (runIn (now run)) true p k (now marks) × Rising (runIn (now run)) false p k (now marks) ⌝ }
+    ensures { λ r. ⌜ Settled (runIn (now (run .entry))) p k (now (partners .entry)) (now (partners .exit)) (now (marks .entry)) (now (marks .exit)) r ⌝ }
+{
+    let slot = 512 * (p as usize) + (k as usize - 1);
+    let state = state_at(run, places[slot] as usize);
+    let event = state.event;
+    match event {
+        Event::Start => false,
+        Event::Internal => false,
+        Event::Send(m) => repeated(run, places, marks, p, k, true, m),
+        Event::Receive(m) => {
+            if repeated(run, places, marks, p, k, false, m) {
+                return true;
+            }
+            enter(run, counts, places, partners, hints, p, k, m)
+        }
+    }
+}
+
+// The first faulty state of process p, or 0; what its states receive is entered.
+fn pair_row(
+    run: &[u8],
+    counts: &[u16],
+    places: &[u16],
+    partners: &mut [u16],
+    marks: &mut [u64],
+    hints: &mut [u16],
+    p: u16,
+) -> u16
+    requires { ⌜ Listed (now run) (now counts) (now places) × (length (now partners) ≡ 4096) × (length (now marks) ≡ 32) × (length (now hints) ≡ 16) × (p < headOf (now run) .processes) ⌝ }
+    ensures { λ r. ⌜ Row (runIn (now (run .entry))) p (now (partners .entry)) (now (partners .exit)) r ⌝ }
+{
+    let row = p as usize;
+    let count = counts[row];
+    let mut k: u16 = 1;
+    while k <= count {
+        if settle(run, counts, places, partners, marks, hints, p, k) {
+            return k;
+        }
+        k += 1;
+    }
+    0
+}
+
+// Every process: its first faulty state, or 0, into `bad`, and the partners.
+pub fn pair_all(
+    run: &[u8],
+    counts: &[u16],
+    places: &[u16],
+    partners: &mut [u16],
+    bad: &mut [u16],
+    n: u16,
+)
+    requires { ⌜ Listed (now run) (now counts) (now places) × (now partners ≡ replicate 4096 0) × (length (now bad) ≡ 8) × (n ≡ headOf (now run) .processes) ⌝ }
+    ensures { λ _. ⌜ Rows (runIn (now (run .entry))) n (now (bad .exit)) (now (partners .exit)) ⌝ }
+{
+    let mut marks = [0u64; 32];
+    let mut hints = [0u16; 16];
+    let mut p: u16 = 0;
+    while p < n {
+        let first = pair_row(run, counts, places, partners, &mut marks, &mut hints, p);
+        let row = p as usize;
+        bad[row] = first;
+        p += 1;
+    }
+}
+
+// The first record in file order that is a second send or receive, or a receive with no send; where there is none, the partners.
+pub fn first_unpaired(
+    run: &[u8],
+    counts: &[u16],
+    places: &[u16],
+    partners: &mut [u16],
+    n: u16,
+) -> First
+    requires { ⌜ Listed (now run) (now counts) (now places) × (length (now partners) ≡ 4096) × (n ≡ headOf (now run) .processes) ⌝ }
+    ensures { λ r. ⌜ PairingJudged (now (run .entry)) (now (partners .exit)) r ⌝ }
+{
+    clear(partners);
+    let mut bad = [0u16; 8];
+    pair_all(run, counts, places, partners, &mut bad, n);
+    earliest(run, places, &bad, n)
+}
