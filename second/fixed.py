@@ -3,7 +3,7 @@
 from __future__ import annotations
 
 import itertools
-from typing import Iterator, Sequence
+from typing import Iterator
 
 import encode
 from chance import Chance
@@ -17,6 +17,7 @@ from fixed_runs import (
     many_states,
     run_with_stamps,
     too_long_run,
+    unpaired_run,
 )
 from marked import (
     NO_CLAUSE,
@@ -280,21 +281,6 @@ def circles_with_other_faults() -> Iterator[Question]:
             yield Question(SEARCH, 8, (), b"".join(swapped), NO_CLAUSE)
 
 
-def pairing_run(first: Sequence[Step], second: Sequence[Step], order: str) -> bytes:
-    """Two processes and two channels from the first to the second."""
-    records = [encode.run_head(2, 2), encode.channel(0, 0, 1), encode.channel(1, 0, 1)]
-    numbers = [0, 0]
-    histories = ([Step(START), *first], [Step(START), *second])
-    for letter in order:
-        process = int(letter)
-        step = histories[process][numbers[process]]
-        numbers[process] += 1
-        message = (step.channel, step.message, step.stamp)
-        # Pairing is judged ahead of clocks, which may be anything here.
-        records.append(encode.state(process, step.event, numbers, message))
-    return b"".join([*records, encode.end()])
-
-
 def pairing_faults() -> Iterator[Question]:
     send, send_on_other = Step(SEND, 0, 4, 1), Step(SEND, 1, 4, 1)
     receive, receive_on_other = Step(RECEIVE, 0, 4), Step(RECEIVE, 1, 4)
@@ -312,7 +298,7 @@ def pairing_faults() -> Iterator[Question]:
     ]
     for first, second in exchanges:
         for order in ("000111", "111000", "010101", "011100"):
-            yield Question(SEARCH, 2, (), pairing_run(first, second, order), NO_CLAUSE)
+            yield Question(SEARCH, 2, (), unpaired_run(first, second, order), NO_CLAUSE)
 
 
 # Cuts, channels and lent places that callers give

@@ -90,3 +90,18 @@ def run_with_stamps(stamps: Sequence[int], received: Sequence[int]) -> bytes:
     for index in received:
         draft.add(1, Step(RECEIVE, 0, largest - index, 0, (index, 0, 0, 0)))
     return draft_bytes(draft, file_order(Chance(1), draft, "by process, last first"))
+
+
+def unpaired_run(first: Sequence[Step], second: Sequence[Step], order: str) -> bytes:
+    """Two processes and two channels from the first to the second, paired or not."""
+    records = [encode.run_head(2, 2), encode.channel(0, 0, 1), encode.channel(1, 0, 1)]
+    numbers = [0, 0]
+    histories = ([Step(START), *first], [Step(START), *second])
+    for letter in order:
+        process = int(letter)
+        step = histories[process][numbers[process]]
+        numbers[process] += 1
+        message = (step.channel, step.message, step.stamp)
+        # Where a message isn't paired no clock is right, and none is judged.
+        records.append(encode.state(process, step.event, numbers, message))
+    return b"".join([*records, encode.end()])

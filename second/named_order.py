@@ -8,6 +8,7 @@ from typing import Iterator, Sequence
 import encode
 from damage import STATE_CLOCK_AT, get, put
 from execution import Draft, Step, run_of, run_records
+from fixed_runs import unpaired_run
 from marked import (
     NO_CLAUSE,
     marked_conditions,
@@ -51,20 +52,6 @@ def named_order() -> Iterator[Named]:
 
 
 # Pairing: two channels from process 0 to process 1, so states from place 30 on
-
-
-def unpaired_run(first: Sequence[Step], second: Sequence[Step], order: str) -> bytes:
-    records = [encode.run_head(2, 2), encode.channel(0, 0, 1), encode.channel(1, 0, 1)]
-    numbers = [0, 0]
-    histories = ([Step(START), *first], [Step(START), *second])
-    for letter in order:
-        process = int(letter)
-        step = histories[process][numbers[process]]
-        numbers[process] += 1
-        message = (step.channel, step.message, step.stamp)
-        # Where a message isn't paired no clock is right, and none is judged.
-        records.append(encode.state(process, step.event, numbers, message))
-    return b"".join([*records, encode.end()])
 
 
 def unpaired(
