@@ -1,10 +1,11 @@
 /*
  * The checker's job as a plain C program, to measure the checker's work against.
  *
- *     baseline RUN COND
+ *     baseline <CASES
  *
- * It reads a recorded run and a condition and prints the first satisfying cut, `none`, or the
- * refusal. All tables are static: the limits of the format bound every one of them.
+ * It reads the cases that the program `suite` reads, as second/cases.py describes them, and prints
+ * the same lines. All tables are static: the limits of the format bound every one of them. A case
+ * writes what it goes on to read, so nothing is cleared between cases.
  */
 
 #include <stdbool.h>
@@ -22,7 +23,11 @@ enum {
     VALUE_COUNT = 4
 };
 
-/* Where the fields stand in a record. */
+/* What a case may hold. */
+enum { LONGEST_PART = 66000, MOST_CUT_NUMBERS = 24, MOST_LENT = 24, FIRST_PLACE = 60000 };
+
+/* Where the fields stand in a case and in a record. */
+enum { EXTRA_AT = 1, CUT_SIZE_AT = 3, RUN_SIZE_AT = 5, CONDITION_SIZE_AT = 9, CASE_HEAD = 13 };
 enum { KIND_AT = 2, BODY_AT = 4, MESSAGE_AT = 10, STAMP_AT = 14, VALUES_AT = 18, CLOCK_AT = 34 };
 
 /* The shortest state record has one clock number, so no file holds more states than this. */
@@ -30,6 +35,8 @@ enum { MOST_RECORDS = LONGEST_FILE / (CLOCK_AT + 2) };
 
 /* A power of two over twice MOST_RECORDS: a probe always ends at an empty slot, and soon. */
 enum { SLOT_BITS = 12, SLOT_COUNT = 1 << SLOT_BITS };
+
+enum question { SEARCH = 1, CONSISTENT, SATISFIES, MESSAGES };
 
 enum kind {
     RUN_HEAD = 1,
@@ -57,8 +64,10 @@ enum test {
     COUNT_OTHER_THAN
 };
 
-enum refusal {
-    TOO_LONG = 1,
+/* There is no 18 here: clocks that are right never let an early receive into a cut. */
+enum reason {
+    ACCEPTED,
+    TOO_LONG,
     CUT_SHORT,
     WRONG_LENGTH,
     WRONG_KIND,
@@ -71,35 +80,41 @@ enum refusal {
     WRONG_PAIRING,
     CIRCLE,
     WRONG_CLOCK,
-    NOT_LINEAR
+    NOT_LINEAR,
+    NO_ROOM,
+    WRONG_CUT,
+    NO_CHANNEL
 };
 
 enum { NOBODY = -1 };
 
-/* One byte more than allowed, to tell a file that is too long from one that just fits. */
 struct file {
     const char *name;
     size_t size;
-    unsigned char bytes[LONGEST_FILE + 1];
+    unsigned char bytes[LONGEST_PART];
 };
 
 struct record {
-    const struct file *file;
     const unsigned char *bytes;
-    size_t place;
     size_t length;
     unsigned kind;
 };
 
-struct state {
+struct refusal {
+    const struct file *file;
+    enum reason reason;
     size_t place;
+    bool is_after_end;
+};
+
+struct state {
+    const unsigned char *bytes;
     unsigned process;
     unsigned number;
     unsigned event;
     unsigned channel;
     uint32_t message;
     int32_t stamp;
-    int32_t values[VALUE_COUNT];
     struct state *partner;   /* a send's receive or a receive's send, null where there is none */
     struct state *next_send; /* the sender's next send on the same channel */
     uint16_t clock[MOST_PROCESSES];
@@ -120,6 +135,12 @@ struct clause {
     uint32_t operand;
 };
 
+/* A slot that an earlier run filled is an empty one. */
+struct slot {
+    uint64_t run;
+    struct state *send;
+};
+
 /* The messages in transit on a channel, sorted against an operand. */
 struct transit {
     uint32_t count;
@@ -129,10 +150,15 @@ struct transit {
 
 static struct file run_file = {.name = "run"};
 static struct file condition_file = {.name = "cond"};
+static unsigned asked_cut[MOST_CUT_NUMBERS];
+static unsigned asked_cut_size;
 
+static uint64_t run_number;
 static unsigned process_count;
 static unsigned channel_count;
+static unsigned channels_read;
 static unsigned clause_count;
+static unsigned clauses_read;
 static size_t record_count;
 
 /* Row entry 0 stays zero: its clock is what a first state takes over from the state ahead of it. */
@@ -141,7 +167,7 @@ static unsigned state_count[MOST_PROCESSES];
 static struct state *in_file_order[MOST_RECORDS];
 static struct channel channels[MOST_CHANNELS];
 static struct clause clauses[MOST_CLAUSES];
-static struct state *send_slots[SLOT_COUNT];
+static struct slot slots[SLOT_COUNT];
 static unsigned cut[MOST_PROCESSES];
 
 static unsigned u16_at(const unsigned char *bytes)
@@ -159,138 +185,118 @@ static int32_t i32_at(const unsigned char *bytes)
     return (int32_t)u32_at(bytes);
 }
 
-/* The first refusal is the whole answer, so nothing is handed back up. */
-static _Noreturn void refuse(const struct file *file, enum refusal number, size_t place)
+static struct refusal nothing_refused(void)
 {
-    printf("refused %s %d %zu\n", file->name, (int)number, place);
-    exit(EXIT_SUCCESS);
+    return (struct refusal){.reason = ACCEPTED};
 }
 
-static _Noreturn void refuse_record(const struct record *record, enum refusal number)
+static struct refusal refused(const struct file *file, enum reason reason, size_t place)
 {
-    refuse(record->file, number, record->place);
+    return (struct refusal){.file = file, .reason = reason, .place = place};
 }
 
-static bool read_file(const char *path, struct file *file)
-{
-    FILE *stream = fopen(path, "rb");
-    if (stream == NULL)
-        return false;
-    file->size = fread(file->bytes, 1, sizeof file->bytes, stream);
-    /* A folder can be opened; only reading it fails. */
-    bool readable = !ferror(stream);
-    fclose(stream);
-    return readable;
-}
+/* Both files: record by record */
 
-static void require_size(const struct file *file)
-{
-    if (file->size > LONGEST_FILE)
-        refuse(file, TOO_LONG, 0);
-}
-
-static struct record record_at(const struct file *file, size_t place)
+static enum reason read_frame(const struct file *file, size_t place, struct record *record)
 {
     size_t left = file->size - place;
     const unsigned char *bytes = file->bytes + place;
 
     if (left < 2)
-        refuse(file, CUT_SHORT, place);
+        return CUT_SHORT;
     size_t length = u16_at(bytes);
     if (length < BODY_AT)
-        refuse(file, WRONG_LENGTH, place);
+        return WRONG_LENGTH;
     if (length > left)
-        refuse(file, CUT_SHORT, place);
-    return (struct record){file, bytes, place, length, u16_at(bytes + KIND_AT)};
+        return CUT_SHORT;
+    *record = (struct record){bytes, length, u16_at(bytes + KIND_AT)};
+    return ACCEPTED;
 }
 
-static struct record record_after(const struct record *record)
-{
-    return record_at(record->file, record->place + record->length);
-}
-
-static void require_kind(const struct record *record, unsigned kind)
+/* The kind is judged ahead of its length. */
+static enum reason judge_kind(const struct record *record, unsigned kind, size_t length)
 {
     if (record->kind != kind)
-        refuse_record(record, WRONG_KIND);
+        return WRONG_KIND;
+    return record->length == length ? ACCEPTED : WRONG_LENGTH;
 }
 
-static void require_length(const struct record *record, size_t length)
+static struct refusal read_records(const struct file *file,
+                                   enum reason (*take)(const struct record *))
 {
-    if (record->length != length)
-        refuse_record(record, WRONG_LENGTH);
+    size_t place = 0;
+    struct record record;
+
+    if (file->size > LONGEST_FILE)
+        return refused(file, TOO_LONG, 0);
+    do {
+        enum reason reason = read_frame(file, place, &record);
+        if (reason == ACCEPTED)
+            reason = take(&record);
+        if (reason != ACCEPTED)
+            return refused(file, reason, place);
+        place += record.length;
+    } while (record.kind != END);
+    if (place < file->size)
+        return (struct refusal){file, WRONG_KIND, place, .is_after_end = true};
+    return nothing_refused();
 }
 
-static void require_nothing_after(const struct record *end)
-{
-    size_t place = end->place + end->length;
-    if (place < end->file->size)
-        refuse(end->file, WRONG_KIND, place);
-}
+/* A run, record by record */
 
-static void read_run_head(const struct record *record)
+static enum reason take_run_head(const struct record *record)
 {
-    require_kind(record, RUN_HEAD);
-    require_length(record, 10);
-    unsigned format = u16_at(record->bytes + BODY_AT);
+    enum reason reason = judge_kind(record, RUN_HEAD, 10);
+    if (reason != ACCEPTED)
+        return reason;
+    if (u16_at(record->bytes + BODY_AT) != 1)
+        return WRONG_FORMAT;
     process_count = u16_at(record->bytes + BODY_AT + 2);
     channel_count = u16_at(record->bytes + BODY_AT + 4);
-    if (format != 1)
-        refuse_record(record, WRONG_FORMAT);
     if (process_count < 1 || process_count > MOST_PROCESSES || channel_count > MOST_CHANNELS)
-        refuse_record(record, OVER_LIMIT);
+        return OVER_LIMIT;
+    channels_read = 0;
+    record_count = 0;
+    memset(state_count, 0, sizeof state_count);
+    return ACCEPTED;
 }
 
-static void read_channel(const struct record *record, unsigned expected)
+static enum reason take_channel(const struct record *record)
 {
-    require_kind(record, CHANNEL);
-    require_length(record, 10);
+    enum reason reason = judge_kind(record, CHANNEL, 10);
+    if (reason != ACCEPTED)
+        return reason;
     unsigned number = u16_at(record->bytes + BODY_AT);
     unsigned from = u16_at(record->bytes + BODY_AT + 2);
     unsigned to = u16_at(record->bytes + BODY_AT + 4);
-    if (number != expected || from >= process_count || to >= process_count || from == to)
-        refuse_record(record, WRONG_NAME);
-    channels[number].from = from;
-    channels[number].to = to;
-}
-
-static struct state state_fields(const struct record *record)
-{
-    const unsigned char *bytes = record->bytes;
-    struct state state = {
-        .place = record->place,
-        .process = u16_at(bytes + BODY_AT),
-        .event = u16_at(bytes + BODY_AT + 2),
-        .channel = u16_at(bytes + BODY_AT + 4),
-        .message = u32_at(bytes + MESSAGE_AT),
-        .stamp = i32_at(bytes + STAMP_AT),
-    };
-    for (size_t value = 0; value < VALUE_COUNT; value++)
-        state.values[value] = i32_at(bytes + VALUES_AT + 4 * value);
-    return state;
+    if (number != channels_read || from >= process_count || to >= process_count || from == to)
+        return WRONG_NAME;
+    channels[channels_read++] = (struct channel){.from = from, .to = to};
+    return ACCEPTED;
 }
 
 /* Names come ahead of the limit, and the limit ahead of the other fields. */
-static void judge_state(const struct record *record, const struct state *state)
+static enum reason judge_state(const struct state *state)
 {
     bool carries = state->event == SEND || state->event == RECEIVE;
 
     if (state->process >= process_count || (carries && state->channel >= channel_count))
-        refuse_record(record, WRONG_NAME);
+        return WRONG_NAME;
     if (state_count[state->process] == MOST_STATES)
-        refuse_record(record, OVER_LIMIT);
+        return OVER_LIMIT;
     if (state->event > RECEIVE)
-        refuse_record(record, WRONG_FIELD);
+        return WRONG_FIELD;
     if (!carries && (state->channel != 0 || state->message != 0))
-        refuse_record(record, WRONG_FIELD);
+        return WRONG_FIELD;
     if (state->event != SEND && state->stamp != 0)
-        refuse_record(record, WRONG_FIELD);
+        return WRONG_FIELD;
     if ((state->event == START) != (state_count[state->process] == 0))
-        refuse_record(record, WRONG_START);
+        return WRONG_START;
     if (state->event == SEND && channels[state->channel].from != state->process)
-        refuse_record(record, WRONG_SIDE);
+        return WRONG_SIDE;
     if (state->event == RECEIVE && channels[state->channel].to != state->process)
-        refuse_record(record, WRONG_SIDE);
+        return WRONG_SIDE;
+    return ACCEPTED;
 }
 
 /* States of a process stand in its own order, so each channel's chain of sends does too. */
@@ -304,70 +310,87 @@ static void chain_send(struct state *send)
     channel->last_send = send;
 }
 
-static void read_state(const struct record *record)
+static void keep_state(const struct state *state)
 {
-    require_length(record, CLOCK_AT + 2 * (size_t)process_count);
-    struct state state = state_fields(record);
-    judge_state(record, &state);
-    state.number = ++state_count[state.process];
-    struct state *kept = &states[state.process][state.number];
-    *kept = state;
+    unsigned number = ++state_count[state->process];
+    struct state *kept = &states[state->process][number];
+    *kept = *state;
+    kept->number = number;
     in_file_order[record_count++] = kept;
     if (kept->event == SEND)
         chain_send(kept);
 }
 
-static void read_run_end(const struct record *record)
+static enum reason take_state(const struct record *record)
 {
-    require_kind(record, END);
-    require_length(record, BODY_AT);
-    for (unsigned process = 0; process < process_count; process++)
-        if (state_count[process] == 0)
-            refuse_record(record, WRONG_START);
-    require_nothing_after(record);
+    const unsigned char *bytes = record->bytes;
+    enum reason reason = judge_kind(record, STATE, CLOCK_AT + 2 * (size_t)process_count);
+    if (reason != ACCEPTED)
+        return reason;
+    struct state state = {
+        .bytes = bytes,
+        .process = u16_at(bytes + BODY_AT),
+        .event = u16_at(bytes + BODY_AT + 2),
+        .channel = u16_at(bytes + BODY_AT + 4),
+        .message = u32_at(bytes + MESSAGE_AT),
+        .stamp = i32_at(bytes + STAMP_AT),
+    };
+    reason = judge_state(&state);
+    if (reason == ACCEPTED)
+        keep_state(&state);
+    return reason;
 }
 
-static void read_run(void)
+static enum reason take_run_end(const struct record *record)
 {
-    require_size(&run_file);
-    struct record record = record_at(&run_file, 0);
-    read_run_head(&record);
-    for (unsigned number = 0; number < channel_count; number++) {
-        record = record_after(&record);
-        read_channel(&record, number);
-    }
-    record = record_after(&record);
-    while (record.kind == STATE) {
-        read_state(&record);
-        record = record_after(&record);
-    }
-    read_run_end(&record);
+    if (record->length != BODY_AT)
+        return WRONG_LENGTH;
+    for (unsigned process = 0; process < process_count; process++)
+        if (state_count[process] == 0)
+            return WRONG_START;
+    return ACCEPTED;
+}
+
+static enum reason take_run_record(const struct record *record)
+{
+    if (record->bytes == run_file.bytes)
+        return take_run_head(record);
+    if (channels_read < channel_count)
+        return take_channel(record);
+    return record->kind == END ? take_run_end(record) : take_state(record);
+}
+
+/* A run, over all records */
+
+static struct refusal refused_state(const struct state *state, enum reason reason)
+{
+    return refused(&run_file, reason, (size_t)(state->bytes - run_file.bytes));
 }
 
 /* The slot of the send of this message, or the empty slot where it belongs. */
-static struct state **send_slot(unsigned channel, uint32_t message)
+static struct slot *slot_of(unsigned channel, uint32_t message)
 {
     uint32_t mixed = (message ^ (uint32_t)channel << 28) * UINT32_C(2654435769);
-    size_t slot = mixed >> (32 - SLOT_BITS);
-    while (send_slots[slot] != NULL &&
-           (send_slots[slot]->message != message || send_slots[slot]->channel != channel))
-        slot = (slot + 1) % SLOT_COUNT;
-    return &send_slots[slot];
+    struct slot *slot = &slots[mixed >> (32 - SLOT_BITS)];
+    while (slot->run == run_number &&
+           (slot->send->message != message || slot->send->channel != channel))
+        slot = slot == &slots[SLOT_COUNT - 1] ? slots : slot + 1;
+    return slot;
 }
 
-/* Fills the slots and gives the place of the first second send, or the file's size. */
+/* Fills the slots and gives the first record that is a second send, or their number. */
 static size_t first_second_send(void)
 {
-    size_t fault = run_file.size;
+    size_t fault = record_count;
     for (size_t record = 0; record < record_count; record++) {
         struct state *state = in_file_order[record];
         if (state->event != SEND)
             continue;
-        struct state **slot = send_slot(state->channel, state->message);
-        if (*slot == NULL)
-            *slot = state;
-        else if (fault == run_file.size)
-            fault = state->place;
+        struct slot *slot = slot_of(state->channel, state->message);
+        if (slot->run != run_number)
+            *slot = (struct slot){run_number, state};
+        else if (fault == record_count)
+            fault = record;
     }
     return fault;
 }
@@ -379,22 +402,24 @@ static size_t first_wrong_receive(void)
         struct state *state = in_file_order[record];
         if (state->event != RECEIVE)
             continue;
-        struct state *send = *send_slot(state->channel, state->message);
-        if (send == NULL || send->partner != NULL)
-            return state->place;
-        send->partner = state;
-        state->partner = send;
+        const struct slot *slot = slot_of(state->channel, state->message);
+        if (slot->run != run_number || slot->send->partner != NULL)
+            return record;
+        slot->send->partner = state;
+        state->partner = slot->send;
     }
-    return run_file.size;
+    return record_count;
 }
 
-static void pair_messages(void)
+static struct refusal pair_messages(void)
 {
+    run_number++;
     size_t by_send = first_second_send();
     size_t by_receive = first_wrong_receive();
     size_t first = by_send < by_receive ? by_send : by_receive;
-    if (first < run_file.size)
-        refuse(&run_file, WRONG_PAIRING, first);
+    if (first < record_count)
+        return refused_state(in_file_order[first], WRONG_PAIRING);
+    return nothing_refused();
 }
 
 /* A receive waits for the state just ahead of its send. */
@@ -438,81 +463,99 @@ static void work_out_clocks(unsigned *done)
 
 static bool clock_agrees(const struct state *state)
 {
-    const unsigned char *recorded = run_file.bytes + state->place + CLOCK_AT;
+    const unsigned char *recorded = state->bytes + CLOCK_AT;
     for (size_t process = 0; process < process_count; process++)
         if (u16_at(recorded + 2 * process) != state->clock[process])
             return false;
     return true;
 }
 
-static void judge_clocks(void)
+static struct refusal judge_clocks(void)
 {
     unsigned done[MOST_PROCESSES] = {0};
     work_out_clocks(done);
     for (size_t record = 0; record < record_count; record++)
         if (in_file_order[record]->number > done[in_file_order[record]->process])
-            refuse(&run_file, CIRCLE, in_file_order[record]->place);
+            return refused_state(in_file_order[record], CIRCLE);
     for (size_t record = 0; record < record_count; record++)
         if (!clock_agrees(in_file_order[record]))
-            refuse(&run_file, WRONG_CLOCK, in_file_order[record]->place);
+            return refused_state(in_file_order[record], WRONG_CLOCK);
+    return nothing_refused();
 }
 
-static void read_local_clause(const struct record *record, struct clause *clause)
+static struct refusal judge_run(void)
 {
-    require_length(record, 14);
-    clause->subject = u16_at(record->bytes + BODY_AT);
-    clause->value = u16_at(record->bytes + BODY_AT + 2);
-    clause->test = u16_at(record->bytes + BODY_AT + 4);
-    clause->operand = u32_at(record->bytes + BODY_AT + 6);
-    if (clause->subject >= process_count || clause->value >= VALUE_COUNT)
-        refuse_record(record, WRONG_NAME);
-    if (clause->test < EQUAL || clause->test > AT_LEAST)
-        refuse_record(record, WRONG_FIELD);
+    struct refusal refusal = read_records(&run_file, take_run_record);
+    if (refusal.reason == ACCEPTED)
+        refusal = pair_messages();
+    if (refusal.reason == ACCEPTED)
+        refusal = judge_clocks();
+    return refusal;
 }
 
-static void read_channel_clause(const struct record *record, struct clause *clause)
+/* A condition */
+
+static enum reason take_condition_head(const struct record *record)
 {
-    require_length(record, 12);
-    clause->subject = u16_at(record->bytes + BODY_AT);
-    clause->test = u16_at(record->bytes + BODY_AT + 2);
-    clause->operand = u32_at(record->bytes + BODY_AT + 4);
-    if (clause->subject >= channel_count)
-        refuse_record(record, WRONG_NAME);
-    if (clause->test < COUNT_AT_MOST || clause->test > COUNT_OTHER_THAN)
-        refuse_record(record, WRONG_FIELD);
-    if (clause->test == COUNT_ODD || clause->test == COUNT_OTHER_THAN)
-        refuse_record(record, NOT_LINEAR);
+    enum reason reason = judge_kind(record, CONDITION_HEAD, 6);
+    if (reason != ACCEPTED)
+        return reason;
+    clauses_read = 0;
+    clause_count = u16_at(record->bytes + BODY_AT);
+    return clause_count <= MOST_CLAUSES ? ACCEPTED : OVER_LIMIT;
 }
 
-static void read_clause(const struct record *record, struct clause *clause)
+static enum reason take_local_clause(const struct record *record)
 {
-    if (record->kind != LOCAL_CLAUSE && record->kind != CHANNEL_CLAUSE)
-        refuse_record(record, WRONG_KIND);
-    clause->kind = record->kind;
+    const unsigned char *body = record->bytes + BODY_AT;
+    if (record->length != 14)
+        return WRONG_LENGTH;
+    struct clause clause = {LOCAL_CLAUSE, u16_at(body), u16_at(body + 2), u16_at(body + 4),
+                            u32_at(body + 6)};
+    if (clause.subject >= process_count || clause.value >= VALUE_COUNT)
+        return WRONG_NAME;
+    if (clause.test < EQUAL || clause.test > AT_LEAST)
+        return WRONG_FIELD;
+    clauses[clauses_read++] = clause;
+    return ACCEPTED;
+}
+
+static enum reason take_channel_clause(const struct record *record)
+{
+    const unsigned char *body = record->bytes + BODY_AT;
+    if (record->length != 12)
+        return WRONG_LENGTH;
+    struct clause clause = {CHANNEL_CLAUSE, u16_at(body), 0, u16_at(body + 2), u32_at(body + 4)};
+    if (clause.subject >= channel_count)
+        return WRONG_NAME;
+    if (clause.test < COUNT_AT_MOST || clause.test > COUNT_OTHER_THAN)
+        return WRONG_FIELD;
+    if (clause.test == COUNT_ODD || clause.test == COUNT_OTHER_THAN)
+        return NOT_LINEAR;
+    clauses[clauses_read++] = clause;
+    return ACCEPTED;
+}
+
+static enum reason take_condition_record(const struct record *record)
+{
+    if (record->bytes == condition_file.bytes)
+        return take_condition_head(record);
+    if (clauses_read == clause_count)
+        return judge_kind(record, END, BODY_AT);
     if (record->kind == LOCAL_CLAUSE)
-        read_local_clause(record, clause);
-    else
-        read_channel_clause(record, clause);
+        return take_local_clause(record);
+    return record->kind == CHANNEL_CLAUSE ? take_channel_clause(record) : WRONG_KIND;
 }
 
-static void read_condition(void)
+static struct refusal judge_run_and_condition(void)
 {
-    require_size(&condition_file);
-    struct record record = record_at(&condition_file, 0);
-    require_kind(&record, CONDITION_HEAD);
-    require_length(&record, 6);
-    clause_count = u16_at(record.bytes + BODY_AT);
-    if (clause_count > MOST_CLAUSES)
-        refuse_record(&record, OVER_LIMIT);
-    for (unsigned number = 0; number < clause_count; number++) {
-        record = record_after(&record);
-        read_clause(&record, &clauses[number]);
-    }
-    record = record_after(&record);
-    require_kind(&record, END);
-    require_length(&record, BODY_AT);
-    require_nothing_after(&record);
+    struct refusal refusal = judge_run();
+    if (refusal.reason == ACCEPTED)
+        refusal = read_records(&condition_file, take_condition_record);
+    return refusal;
 }
+
+/* The search */
 
 static bool is_received(const struct state *send, const struct channel *channel)
 {
@@ -543,26 +586,25 @@ static struct transit in_transit(struct channel *channel, int32_t operand)
     return transit;
 }
 
+static bool comparison_holds(unsigned comparison, int32_t value, int32_t constant)
+{
+    switch (comparison) {
+    case EQUAL:
+        return value == constant;
+    case OTHER_THAN:
+        return value != constant;
+    case AT_MOST:
+        return value <= constant;
+    default:
+        return value >= constant;
+    }
+}
+
 static int mover_by_local_clause(const struct clause *clause)
 {
-    int32_t value = states[clause->subject][cut[clause->subject]].values[clause->value];
-    int32_t constant = (int32_t)clause->operand;
-    bool holds = false;
-
-    switch (clause->test) {
-    case EQUAL:
-        holds = value == constant;
-        break;
-    case OTHER_THAN:
-        holds = value != constant;
-        break;
-    case AT_MOST:
-        holds = value <= constant;
-        break;
-    case AT_LEAST:
-        holds = value >= constant;
-        break;
-    }
+    const struct state *state = &states[clause->subject][cut[clause->subject]];
+    int32_t value = i32_at(state->bytes + VALUES_AT + 4 * clause->value);
+    bool holds = comparison_holds(clause->test, value, (int32_t)clause->operand);
     return holds ? NOBODY : (int)clause->subject;
 }
 
@@ -606,8 +648,7 @@ static int mover_by_clocks(void)
     return NOBODY;
 }
 
-/* After a move everything is tested again: a clause that held may hold no longer. */
-static int process_to_move(void)
+static int mover_by_clauses(void)
 {
     for (unsigned number = 0; number < clause_count; number++) {
         const struct clause *clause = &clauses[number];
@@ -616,21 +657,31 @@ static int process_to_move(void)
         if (mover != NOBODY)
             return mover;
     }
-    return mover_by_clocks();
+    return NOBODY;
 }
 
+/* After a move everything is tested again: a clause that held may hold no longer. */
 static bool find_first_cut(void)
 {
     for (unsigned process = 0; process < process_count; process++)
         cut[process] = 1;
     for (;;) {
-        int mover = process_to_move();
+        int mover = mover_by_clauses();
+        if (mover == NOBODY)
+            mover = mover_by_clocks();
         if (mover == NOBODY)
             return true;
         if (cut[mover] == state_count[mover])
             return false;
         cut[mover]++;
     }
+}
+
+/* The questions */
+
+static void print_refusal(struct refusal refusal)
+{
+    printf("refused %s %d %zu\n", refusal.file->name, (int)refusal.reason, refusal.place);
 }
 
 static void print_cut(void)
@@ -642,27 +693,165 @@ static void print_cut(void)
         printf("channel %u %u\n", number, (unsigned)in_transit(&channels[number], 0).count);
 }
 
-int main(int argument_count, char **arguments)
+/* The numbers in the places that no cut was written to show that they are as they were. */
+static void print_places(unsigned lent, unsigned written)
 {
-    if (argument_count != 3) {
-        fputs("usage: baseline RUN COND\n", stderr);
-        return 2;
-    }
-    if (!read_file(arguments[1], &run_file)) {
-        puts("unreadable run");
-        return EXIT_SUCCESS;
-    }
-    if (!read_file(arguments[2], &condition_file)) {
-        puts("unreadable cond");
-        return EXIT_SUCCESS;
-    }
-    read_run();
-    pair_messages();
-    judge_clocks();
-    read_condition();
-    if (find_first_cut())
+    fputs("places", stdout);
+    for (unsigned place = 0; place < lent; place++)
+        printf(" %u", place < written ? cut[place] : FIRST_PLACE + place);
+    putchar('\n');
+}
+
+static struct refusal judge_for_search(unsigned lent)
+{
+    struct refusal refusal = judge_run_and_condition();
+    if (refusal.reason == ACCEPTED && lent < process_count)
+        return refused(&run_file, NO_ROOM, 0);
+    return refusal;
+}
+
+static void answer_search(unsigned lent)
+{
+    struct refusal refusal = judge_for_search(lent);
+    bool is_found = refusal.reason == ACCEPTED && find_first_cut();
+    if (refusal.reason != ACCEPTED)
+        print_refusal(refusal);
+    else if (is_found)
         print_cut();
     else
         puts("none");
+    print_places(lent, is_found ? process_count : 0);
+}
+
+static struct refusal take_asked_cut(void)
+{
+    if (asked_cut_size != process_count)
+        return refused(&run_file, WRONG_CUT, 0);
+    for (unsigned process = 0; process < process_count; process++) {
+        cut[process] = asked_cut[process];
+        if (cut[process] < 1 || cut[process] > state_count[process])
+            return refused(&run_file, WRONG_CUT, 0);
+    }
+    return nothing_refused();
+}
+
+static void answer_consistent(void)
+{
+    struct refusal refusal = judge_run();
+    if (refusal.reason == ACCEPTED)
+        refusal = take_asked_cut();
+    if (refusal.reason != ACCEPTED)
+        print_refusal(refusal);
+    else
+        puts(mover_by_clocks() == NOBODY ? "yes" : "no");
+}
+
+static void answer_satisfies(void)
+{
+    struct refusal refusal = judge_run_and_condition();
+    if (refusal.reason == ACCEPTED)
+        refusal = take_asked_cut();
+    if (refusal.reason != ACCEPTED)
+        print_refusal(refusal);
+    else
+        puts(mover_by_clauses() == NOBODY && mover_by_clocks() == NOBODY ? "yes" : "no");
+}
+
+static void answer_messages(unsigned channel)
+{
+    struct refusal refusal = judge_run();
+    if (refusal.reason == ACCEPTED)
+        refusal = take_asked_cut();
+    if (refusal.reason == ACCEPTED && channel >= channel_count)
+        refusal = refused(&run_file, NO_CHANNEL, 0);
+    if (refusal.reason != ACCEPTED)
+        print_refusal(refusal);
+    else
+        printf("count %u\n", (unsigned)in_transit(&channels[channel], 0).count);
+}
+
+/* How many bytes of the refused record there are. */
+static size_t shown_size(struct refusal refusal)
+{
+    if (refusal.reason == ACCEPTED || refusal.reason == TOO_LONG || refusal.reason >= NO_ROOM)
+        return 0;
+    size_t left = refusal.file->size - refusal.place;
+    if (refusal.is_after_end || left < 2)
+        return left;
+    size_t length = u16_at(refusal.file->bytes + refusal.place);
+    return length < left ? length : left;
+}
+
+/* Whether a cut is found makes no difference here, so none is sought. */
+static void answer_shown(unsigned lent)
+{
+    struct refusal refusal = judge_for_search(lent);
+    size_t size = shown_size(refusal);
+    fputs(size == 0 ? "shown -" : "shown ", stdout);
+    for (size_t byte = 0; byte < size; byte++)
+        printf("%02x", refusal.file->bytes[refusal.place + byte]);
+    putchar('\n');
+}
+
+static void answer(unsigned question, unsigned extra)
+{
+    unsigned lent = extra < MOST_LENT ? extra : MOST_LENT;
+    switch (question) {
+    case SEARCH:
+        answer_search(lent);
+        break;
+    case CONSISTENT:
+        answer_consistent();
+        break;
+    case SATISFIES:
+        answer_satisfies();
+        break;
+    case MESSAGES:
+        answer_messages(extra);
+        break;
+    default:
+        answer_shown(lent);
+    }
+}
+
+/* The cases */
+
+static bool read_part(unsigned char *bytes, size_t room, size_t size)
+{
+    return size <= room && fread(bytes, 1, size, stdin) == size;
+}
+
+static bool read_file(struct file *file, size_t size)
+{
+    file->size = size;
+    return read_part(file->bytes, sizeof file->bytes, size);
+}
+
+static bool read_asked_cut(unsigned size)
+{
+    unsigned char bytes[2 * MOST_CUT_NUMBERS];
+    if (!read_part(bytes, sizeof bytes, 2 * (size_t)size))
+        return false;
+    for (unsigned number = 0; number < size; number++)
+        asked_cut[number] = u16_at(bytes + 2 * number);
+    asked_cut_size = size;
+    return true;
+}
+
+static bool read_case(const unsigned char *head)
+{
+    return read_asked_cut(u16_at(head + CUT_SIZE_AT)) &&
+           read_file(&run_file, u32_at(head + RUN_SIZE_AT)) &&
+           read_file(&condition_file, u32_at(head + CONDITION_SIZE_AT));
+}
+
+int main(void)
+{
+    unsigned char head[CASE_HEAD];
+    size_t got;
+    while ((got = fread(head, 1, sizeof head, stdin)) == sizeof head && read_case(head))
+        answer(head[0], u16_at(head + EXTRA_AT));
+    if (got != 0)
+        puts("cut short");
     return EXIT_SUCCESS;
 }

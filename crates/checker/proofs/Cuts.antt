@@ -11,15 +11,10 @@ use Rattle.model.specs.Run.{processes}
 use Rattle.model.specs.Cut.{at, IsCut}
 use Rattle.record.specs.Record.{headOf}
 use Rattle.record.specs.declared.Head.{Head}
-use Rattle.record.specs.declared.Refusal.{Refusal}
-use Rattle.run.specs.declared.Reading.{Reading}
-use Rattle.run.specs.declared.Reading.the-variants as R
-use Rattle.judging.specs.Judged.{Judged, Ready}
-use Rattle.judging.specs.Judged.Judged.{byPass, byPairing, byCircle, byClock, wholly}
-use Rattle.run.specs.Tables.{runIn, Listed, Tables}
+use Rattle.run.specs.Tables.{runIn, Listed}
 use Rattle.run.proofs.Listed.{ok, processes-are, placed-few, listed-places, listed-count}
 use Rattle.cut.specs.Clocks.{InTable}
-use Rattle.checker.specs.Questions.{Chosen, RunAccepted}
+use Rattle.checker.specs.Questions.{Chosen}
 
 -- the test of one number
 pub number-wrong : (x y : ℕ) → (eqb x 0 || ltb y x) ≡ true → 1 ≤ x → x ≤ y → ⊥
@@ -89,25 +84,3 @@ module _ (s cs ps : List ℕ) (w : Listed s cs ps) where
           let d = told .1 (subst (λ h. Chosen cs cut (h .processes)) (sym same) (cut-chosen cut is)) in
           let f = denied t e in
           let z : _≡_ {A = ℕ} 0 1 = cc in omega arith
-
--- ---- the judging's answer
-
-module _ (s : List ℕ) where
-  pub judged-refused : {r : Reading} (x : Refusal) → Judged s r → r ≡ R.Refused x → Judged s (R.Refused x)
-  judged-refused x j e = subst (Judged s) e j
-
-  head-is : {r : Reading} (h : Head) → Judged s r → r ≡ R.Accepted h → h ≡ headOf s
-  head-is h (byPass x d) e = absurd (let z : _≡_ {A = ℕ} 0 1 = cc in omega arith)
-  head-is h (byPairing x d w) e = absurd (let z : _≡_ {A = ℕ} 0 1 = cc in omega arith)
-  head-is h (byCircle x d n w) e = absurd (let z : _≡_ {A = ℕ} 0 1 = cc in omega arith)
-  head-is h (byClock x d n m w) e = absurd (let z : _≡_ {A = ℕ} 0 1 = cc in omega arith)
-  head-is h (wholly d n m o) e = let same : headOf s ≡ h = cc in sym same
-
-  pub judged-accepted : {r : Reading} (h : Head) → Judged s r → r ≡ R.Accepted h → (h ≡ headOf s) × RunAccepted s
-  judged-accepted h j e = let same = head-is h j e in (same, subst (λ h. Judged s (R.Accepted h)) same (subst (Judged s) e j))
-
-  pub ready-tables : {cs ps ns ks : List ℕ} {r : Reading} (h : Head) → Ready s cs ps ns ks r → r ≡ R.Accepted h → Tables s cs ps ns ks
-  ready-tables {cs} {ps} {ns} {ks} h w e = subst (Ready s cs ps ns ks) e w
-
-  pub tables-listed : {cs ps ns ks : List ℕ} → Tables s cs ps ns ks → Listed s cs ps
-  tables-listed w = record { read = w .read; index = w .index; long = w .places-long }

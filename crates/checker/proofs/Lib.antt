@@ -1,6 +1,5 @@
 pub mod Parts
-pub mod Answers
-pub mod Once
-pub mod Demands
 pub mod Cuts
-pub mod Conditions
+pub mod Determined
+pub mod Demands
+pub mod Marked

@@ -4,7 +4,7 @@ use mathlib.Core.List.{List}
 use Prim.Native.Nat.{ℕ, _≤_, _<_}
 use lib.ListN.{length, getD}
 use Rattle.model.specs.Cut.{at, ByMessage}
-use Rattle.model.specs.Clause.{Clause, Satisfies, First}
+use Rattle.model.specs.Clause.{Satisfies, First}
 use Rattle.record.specs.Record.{headOf}
 use Rattle.record.specs.Refusal.{number, refusal}
 use Rattle.record.specs.Refusal.Reason.{noRoom, early}
@@ -13,15 +13,12 @@ use Rattle.record.specs.declared.Refusal.{Refusal}
 use Rattle.run.specs.Tables.{runIn}
 use Rattle.judging.specs.Judged.{Judged}
 use Rattle.run.specs.declared.Reading.the-variants as R
-use Rattle.condition.specs.Read.{placesIn, readOf, clausesIn}
-use Rattle.condition.specs.Read.Verdict.{refused, accepted}
+use Rattle.condition.specs.Read.{readOf}
+use Rattle.condition.specs.Read.Verdict.{refused}
+use Rattle.search.specs.Search.{clausesFor}
+use Rattle.checker.specs.Accepted.{RunAccepted, Both}
 use Rattle.checker.specs.declared.Answer.{Answer}
 use Rattle.checker.specs.declared.Answer.the-variants as A
-
--- run and condition are accepted
-pub record Both (s c : List ℕ) : Type 0 where
-  pub run : Judged s (R.Accepted (headOf s))
-  pub cond : readOf c (headOf s) ≡ accepted (placesIn (readOf c (headOf s)))
 
 -- the cut stands in the first places, and those past it are as they were
 pub record Wrote (cut lent lent′ : List ℕ) : Type 0 where
@@ -29,17 +26,13 @@ pub record Wrote (cut lent lent′ : List ℕ) : Type 0 where
   pub front : (i : ℕ) → i < length cut → getD lent′ i 0 ≡ at cut i
   pub past : (i : ℕ) → length cut ≤ i → getD lent′ i 0 ≡ getD lent i 0
 
--- the condition's clauses beside the run's head
-abbrev pub clauses : List ℕ → List ℕ → List Clause
-clauses s c = clausesIn c (headOf s)
-
 -- in this order: the run is refused, the condition is, the lent places are too few; none, the cut has a receive whose send is past it, found
 pub data Answered (s c lent lent′ : List ℕ) : Answer → Type 0 where
   runRefused : (x : Refusal) → Judged s (R.Refused x) → lent′ ≡ lent → Answered s c lent lent′ (A.Refused x)
-  condRefused : (x : Refusal) → Judged s (R.Accepted (headOf s)) → readOf c (headOf s) ≡ refused x → lent′ ≡ lent → Answered s c lent lent′ (A.Refused x)
+  condRefused : (x : Refusal) → RunAccepted s → readOf c (headOf s) ≡ refused x → lent′ ≡ lent → Answered s c lent lent′ (A.Refused x)
   few : Both s c → length lent < headOf s .processes → lent′ ≡ lent → Answered s c lent lent′ (A.Refused (refusal Run (number noRoom) 0))
-  nowhere : Both s c → headOf s .processes ≤ length lent → ((d : List ℕ) → ¬ Satisfies (runIn s) (clauses s c) d) → lent′ ≡ lent → Answered s c lent lent′ A.Nowhere
-  tooEarly : Both s c → headOf s .processes ≤ length lent → (cut : List ℕ) → First (runIn s) (clauses s c) cut → ¬ ByMessage (runIn s) cut → lent′ ≡ lent
+  nowhere : Both s c → headOf s .processes ≤ length lent → ((d : List ℕ) → ¬ Satisfies (runIn s) (clausesFor s c) d) → lent′ ≡ lent → Answered s c lent lent′ A.Nowhere
+  tooEarly : Both s c → headOf s .processes ≤ length lent → (cut : List ℕ) → First (runIn s) (clausesFor s c) cut → ¬ ByMessage (runIn s) cut → lent′ ≡ lent
       → Answered s c lent lent′ (A.Refused (refusal Run (number early) 0))
-  found : Both s c → headOf s .processes ≤ length lent → (cut : List ℕ) → First (runIn s) (clauses s c) cut → ByMessage (runIn s) cut → Wrote cut lent lent′
+  found : Both s c → headOf s .processes ≤ length lent → (cut : List ℕ) → First (runIn s) (clausesFor s c) cut → ByMessage (runIn s) cut → Wrote cut lent lent′
       → Answered s c lent lent′ A.Found

@@ -1,3 +1,4 @@
+pub mod Accepted
 pub mod Answered
 pub mod Shown
 pub mod Questions

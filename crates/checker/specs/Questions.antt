@@ -12,8 +12,10 @@ use Rattle.record.specs.declared.Refusal.{Refusal}
 use Rattle.run.specs.declared.Reading.the-variants as R
 use Rattle.judging.specs.Judged.{Judged}
 use Rattle.run.specs.Tables.{runIn}
-use Rattle.condition.specs.Read.{placesIn, readOf, clausesIn}
-use Rattle.condition.specs.Read.Verdict.{refused, accepted}
+use Rattle.condition.specs.Read.{readOf}
+use Rattle.condition.specs.Read.Verdict.{refused}
+use Rattle.search.specs.Search.{clausesFor}
+use Rattle.checker.specs.Accepted.{RunAccepted, ConditionAccepted}
 use Rattle.checker.specs.declared.Count.{Count}
 use Rattle.checker.specs.declared.Count.the-variants as C
 use Rattle.checker.specs.declared.Verdict.{Verdict}
@@ -24,14 +26,6 @@ pub record Chosen (counts cut : List ℕ) (n : ℕ) : Type 0 where
   pub size : length cut ≡ n
   pub counted : (p : ℕ) → p < n → 1 ≤ at cut p
   pub there : (p : ℕ) → p < n → at cut p ≤ getD counts p 0
-
--- the whole run is accepted
-abbrev pub RunAccepted : List ℕ → Type 0
-RunAccepted s = Judged s (R.Accepted (headOf s))
-
--- and the condition is, beside the run's head
-abbrev pub ConditionAccepted : List ℕ → List ℕ → Type 0
-ConditionAccepted s c = readOf c (headOf s) ≡ accepted (placesIn (readOf c (headOf s)))
 
 -- 16 and 17, which have no record
 abbrev pub noCut : Refusal
@@ -57,5 +51,5 @@ pub data AskedSatisfies (s c cut : List ℕ) : Verdict → Type 0 where
   runRefused : (x : Refusal) → Judged s (R.Refused x) → AskedSatisfies s c cut (A.Refused x)
   conditionRefused : (x : Refusal) → RunAccepted s → readOf c (headOf s) ≡ refused x → AskedSatisfies s c cut (A.Refused x)
   wrongCut : RunAccepted s → ConditionAccepted s c → ¬ IsCut (runIn s) cut → AskedSatisfies s c cut (A.Refused noCut)
-  yes : RunAccepted s → ConditionAccepted s c → Satisfies (runIn s) (clausesIn c (headOf s)) cut → AskedSatisfies s c cut A.Yes
-  no : RunAccepted s → ConditionAccepted s c → IsCut (runIn s) cut → ¬ Satisfies (runIn s) (clausesIn c (headOf s)) cut → AskedSatisfies s c cut A.No
+  yes : RunAccepted s → ConditionAccepted s c → Satisfies (runIn s) (clausesFor s c) cut → AskedSatisfies s c cut A.Yes
+  no : RunAccepted s → ConditionAccepted s c → IsCut (runIn s) cut → ¬ Satisfies (runIn s) (clausesFor s c) cut → AskedSatisfies s c cut A.No

@@ -18,10 +18,9 @@ ghost use lib.ListN.{length, replicate};
 ghost use Rattle.model.specs.Run.{processes};
 ghost use Rattle.record.specs.Record.{headOf};
 ghost use Rattle.run.specs.Tables.{runIn, Tables};
-ghost use Rattle.judging.specs.Judged.{Judged};
-ghost use Rattle.run.specs.declared.Reading.the-variants.{Accepted};
 ghost use Rattle.search.specs.Search.{Given};
-ghost use Rattle.checker.specs.Answered.{Wrote, Both, Answered};
+ghost use Rattle.checker.specs.Accepted.{RunAccepted, Both};
+ghost use Rattle.checker.specs.Answered.{Wrote, Answered};
 
 // The cut into the first lent places.
 fn write(cut: &[u16], lent: &mut [u16])
@@ -108,7 +107,7 @@ fn with_condition(
     head: Head,
     lent: &mut [u16],
 ) -> Answer
-    requires { ⌜ Judged (now run) (Accepted (headOf (now run))) × Tables (now run) (now counts) (now places) (now partners) (now clocks) × (head ≡ headOf (now run)) ⌝ }
+    requires { ⌜ RunAccepted (now run) × Tables (now run) (now counts) (now places) (now partners) (now clocks) × (head ≡ headOf (now run)) ⌝ }
     ensures { λ r. ⌜ Answered (now (run .entry)) (now (cond .entry)) (now (lent .entry)) (now (lent .exit)) r ⌝ }
 {
     let mut clauses = [0u16; 32];

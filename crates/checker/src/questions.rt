@@ -25,7 +25,8 @@ ghost use Rattle.record.specs.Record.{headOf};
 ghost use Rattle.run.specs.Tables.{runIn, clockIn, Listed, Tables};
 ghost use Rattle.cut.specs.Lent.{Lent};
 ghost use Rattle.search.specs.Search.{Given, clausesFor};
-ghost use Rattle.checker.specs.Questions.{Chosen, RunAccepted, AskedConsistent, AskedMessages, AskedSatisfies};
+ghost use Rattle.checker.specs.Accepted.{RunAccepted};
+ghost use Rattle.checker.specs.Questions.{Chosen, AskedConsistent, AskedMessages, AskedSatisfies};
 
 // A cut names one state of each process.
 fn cut_is(counts: &[u16], cut: &[u16], n: u16) -> bool

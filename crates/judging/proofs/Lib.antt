@@ -4,3 +4,4 @@ pub mod Partners
 pub mod Once
 pub mod Orders
 pub mod Verdicts
+pub mod Acceptance

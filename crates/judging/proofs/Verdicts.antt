@@ -42,7 +42,7 @@ use Rattle.run.proofs.Listed.{sides, process-of, place-rises, listed-count}
 use Rattle.judging.proofs.Firsts.{Firsts, none-bad, first-none, first-at}
 
 -- two messages that are the same have one channel and one number
-same-parts : (o p : Option Message) → T (sameMessage o p) → (m : Message) × (n : Message) × (o ≡ some m) × (p ≡ some n) × (m .channel ≡ n .channel) × (m .number ≡ n .number)
+pub same-parts : (o p : Option Message) → T (sameMessage o p) → (m : Message) × (n : Message) × (o ≡ some m) × (p ≡ some n) × (m .channel ≡ n .channel) × (m .number ≡ n .number)
 same-parts none p t = absurd t
 same-parts (some m) none t = absurd t
 same-parts (some m) (some n) t =

@@ -2,7 +2,7 @@
 use mathlib.Core.Path.{_≡_, refl}
 use mathlib.Core.Bool.{Bool, true, false}
 use mathlib.Core.List.{List, [], _∷_, List·Memᴰ, List·Memᴰ·head, List·Memᴰ·tail}
-use mathlib.Core.Logic.{inl}
+use mathlib.Core.Logic.{inl, ⊎-elim, _≢_}
 use mathlib.Core.Option.{Option, some, none}
 use Prim.Native.Nat.{ℕ, zero, suc, _+_}
 use native.Mathlib.Omega.{arith}
@@ -11,7 +11,7 @@ use lib.ListN.{length, take}
 use Rattle.model.specs.declared.Message.{Message}
 use Rattle.model.specs.declared.Event.{Event}
 use Rattle.model.specs.declared.Event.the-variants.{Start, Internal, Send, Receive}
-use Rattle.model.specs.Run.{Run, State, history, state, into, paired, Known}
+use Rattle.model.specs.Run.{Run, State, history, state, into, IsState, paired, Paired, Known}
 use Rattle.model.specs.Cut.{Before, AfterCircle, ClockIs, at, sends, waiting, between, inTransit, SameUpTo}
 use Rattle.model.specs.Cut.Before.{next, message, through}
 use Rattle.model.specs.Clause.{Test, passes, Clause, holds, Linear, Satisfies, First}
@@ -20,8 +20,9 @@ use Rattle.model.specs.Clause.Comparison.{equal, other, atMost, atLeast}
 use Rattle.model.specs.Clause.Test.{countAtMost, countAtLeast, countIs, stampIs, noStampIs, everyAtLeast, someAtMost, countOdd, countOther}
 use Rattle.model.proofs.Lists.{keep}
 use Rattle.model.proofs.Order.{clock-unique}
+use Rattle.model.proofs.Pairing.{view, one-send}
 use Rattle.model.proofs.Circle.{clear}
-use Rattle.model.proofs.Clock.{clock-own, clock-first, clock-receive, before-first}
+use Rattle.model.proofs.Clock.{clock-own, clock-first, clock-step, clock-receive, before-first}
 use Rattle.model.proofs.Decide.{consistent?, cutsOf, first?, first-found, none-found}
 use Rattle.model.proofs.Tested.{known-test}
 
@@ -31,7 +32,7 @@ pub record Case : Type 0 where
   pub clauses : List Clause
   pub answer : Option (List ℕ)
 
-case : List Clause → Option (List ℕ) → Case
+unfoldable pub case : List Clause → Option (List ℕ) → Case
 case k a = record { clauses = k; answer = a }
 
 -- what an answer of the search says
@@ -53,13 +54,13 @@ all-answered r known (x ∷ ks) w k (List·Memᴰ·tail q) = all-answered r know
 
 -- ---- the run of two desks
 
-row : Event → ℕ → State
+unfoldable pub row : Event → ℕ → State
 row e v = record { event = e; values = pos v ∷ pos 0 ∷ pos 0 ∷ pos 0 ∷ [] }
 
-note : ℕ → ℕ → ℤ → Message
+unfoldable pub note : ℕ → ℕ → ℤ → Message
 note c n x = record { channel = c; number = n; stamp = x }
 
-pub desks : Run
+unfoldable pub desks : Run
 desks = record {
   histories = (row Start 0 ∷ row (Send (note 0 7 (pos 5))) 1 ∷ row Internal 1 ∷ [])
       ∷ (row Start 0 ∷ row (Receive (note 0 7 (pos 0))) 0 ∷ row Internal 1 ∷ [])
@@ -78,7 +79,7 @@ unfolding desks row note into state paired
 consistent-cuts = refl
 
 -- cases 2 to 8, and below them the rows that tell apart what those leave open
-pub table : List Case
+unfoldable pub table : List Case
 table =
     case [] (some (1 ∷ 1 ∷ []))
     ∷ case (on 0 (countIs 1) ∷ []) (some (2 ∷ 1 ∷ []))
@@ -143,18 +144,90 @@ pub early : length (inTransit desks (1 ∷ 2 ∷ []) 0) ≡ 0
 unfolding desks row note into state paired sends waiting between inTransit
 early = refl
 
--- case 10: the clock at process 1's second state has 1, and not 2, in place 0
-pub right-clock : ClockIs desks 1 2 0 1
-unfolding desks row note into state paired
-right-clock =
-    clock-receive desks desks-known 1 1 0 1 0 0 1 (λ e. absurd (omega arith)) (record { counted = omega arith; there = omega arith })
-    (record { same = tt })
-    (clear desks (λ i k d. absurd (before-first desks desks-known d)))
-    (clock-first desks desks-known 1 0 (λ e. absurd (omega arith)))
-    (clock-own desks 0 1)
+-- ---- its clocks: (1,0) (2,0) (3,0) and (0,1) (1,2) (1,3)
 
+pub each-state : (P : ℕ → ℕ → Type 0) → P 0 1 → P 0 2 → P 0 3 → P 1 1 → P 1 2 → P 1 3 → (j l : ℕ) → IsState desks j l → P j l
+unfolding desks
+each-state P a b c d e f j zero s = absurd (omega (arith, s .counted))
+each-state P a b c d e f zero (suc zero) s = a
+each-state P a b c d e f zero (suc (suc zero)) s = b
+each-state P a b c d e f zero (suc (suc (suc zero))) s = c
+each-state P a b c d e f zero (suc (suc (suc (suc l)))) s = absurd (omega (arith, s .there))
+each-state P a b c d e f (suc zero) (suc zero) s = d
+each-state P a b c d e f (suc zero) (suc (suc zero)) s = e
+each-state P a b c d e f (suc zero) (suc (suc (suc zero))) s = f
+each-state P a b c d e f (suc zero) (suc (suc (suc (suc l)))) s = absurd (omega (arith, s .there))
+each-state P a b c d e f (suc (suc j)) (suc l) s = absurd (omega (arith, s .there))
+
+-- the send leads into state 2 of process 0, the receive into state 2 of process 1
+one-message : Paired desks 0 2 1 2
+unfolding desks row note into state paired
+one-message = record { same = tt }
+
+-- a state that nothing is received into
+abbrev Own : ℕ → ℕ → Type 0
+Own j l = (m : Message) → into desks j l ≢ Receive m
+
+own : (Own 0 2 × Own 0 3) × Own 1 3
+unfolding desks row note into state
+own = (
+  (λ m e. let z : _≡_ {A = ℕ} 0 1 = cc in omega arith, λ m e. let z : _≡_ {A = ℕ} 0 1 = cc in omega arith),
+  λ m e. let z : _≡_ {A = ℕ} 0 1 = cc in omega arith,
+)
+
+first-clear : (j : ℕ) → ¬ AfterCircle desks j 1
+first-clear j = clear desks (λ i k d. absurd (before-first desks desks-known d))
+
+own-clear : {j l : ℕ} → Own j (suc l) → ¬ AfterCircle desks j l → ¬ AfterCircle desks j (suc l)
+own-clear {j} {l} n c = clear desks (λ i k d. ⊎-elim
+    (λ (a : (i ≡ j) × (suc k ≡ suc l) × IsState desks i k). let e : k ≡ l = omega (arith, a .1) in rw (a .0, e) c)
+    (λ o. absurd (n (view o .received) (view o .receive)))
+    d)
+
+receive-clear : ¬ AfterCircle desks 1 2
+receive-clear = clear desks (λ i k d. ⊎-elim
+    (λ (a : (i ≡ 1) × (suc k ≡ 2) × IsState desks i k). let e : k ≡ 1 = omega (arith, a .1) in rw (a .0, e) (first-clear 1))
+    (λ o. let u = one-send desks desks-known o one-message in let e : k ≡ 1 = omega (arith, u .1) in rw (u .0, e) (first-clear 0))
+    d)
+
+pub desks-clear : (j l : ℕ) → IsState desks j l → ¬ AfterCircle desks j l
+desks-clear =
+    let second : ¬ AfterCircle desks 0 2 = own-clear (own .0 .0) (first-clear 0) in
+    each-state (λ j l. ¬ AfterCircle desks j l) (first-clear 0) second (own-clear (own .0 .1) second) (first-clear 1) receive-clear (own-clear (own .1) receive-clear)
+
+-- both places of a clock
+pub record Clock (j l x y : ℕ) : Type 0 where
+  pub left : ClockIs desks j l 0 x
+  pub right : ClockIs desks j l 1 y
+
+pub clock-01 : Clock 0 1 1 0
+clock-01 = record { left = clock-own desks 0 1; right = clock-first desks desks-known 0 1 (λ e. absurd (omega arith)) }
+
+pub clock-02 : Clock 0 2 2 0
+unfolding desks
+clock-02 = record { left = clock-own desks 0 2; right = clock-step desks desks-known 0 1 1 0 (λ e. absurd (omega arith)) (record { counted = omega arith; there = omega arith }) (record { counted = omega arith; there = omega arith }) (own .0 .0) (clock-01 .right) }
+
+pub clock-03 : Clock 0 3 3 0
+unfolding desks
+clock-03 = record { left = clock-own desks 0 3; right = clock-step desks desks-known 0 2 1 0 (λ e. absurd (omega arith)) (record { counted = omega arith; there = omega arith }) (record { counted = omega arith; there = omega arith }) (own .0 .1) (clock-02 .right) }
+
+pub clock-11 : Clock 1 1 0 1
+clock-11 = record { left = clock-first desks desks-known 1 0 (λ e. absurd (omega arith)); right = clock-own desks 1 1 }
+
+pub clock-12 : Clock 1 2 1 2
+unfolding desks
+clock-12 = record {
+  left = clock-receive desks desks-known 1 1 0 1 0 0 1 (λ e. absurd (omega arith)) (record { counted = omega arith; there = omega arith }) one-message (first-clear 0) (clock-11 .left) (clock-01 .left);
+  right = clock-own desks 1 2;
+}
+
+pub clock-13 : Clock 1 3 1 3
+unfolding desks
+clock-13 = record { left = clock-step desks desks-known 1 2 0 1 (λ e. absurd (omega arith)) (record { counted = omega arith; there = omega arith }) (record { counted = omega arith; there = omega arith }) (own .1) (clock-12 .left); right = clock-own desks 1 3 }
+
+-- case 10: at process 1's second state place 0 is 1, and not 2
 pub wrong-clock : ¬ ClockIs desks 1 2 0 2
-wrong-clock w = absurd (omega (arith, clock-unique w right-clock))
+wrong-clock w = absurd (omega (arith, clock-unique w (clock-12 .left)))
 
 -- ---- nothing past the cut counts: a run with other states past (2, 1)
 

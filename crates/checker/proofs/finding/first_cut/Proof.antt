@@ -1,22 +1,19 @@
 use borrow.Author.Needs.{needs}
-use native.Mathlib.Omega.{arith}
-use mathlib.Core.Path.{_≡_, refl, sym, ap, _∙_, subst}
-use Rattle.judging.specs.Judged.{Judged}
-use Rattle.run.specs.declared.Reading.the-variants as R
+use mathlib.Core.Path.{refl}
 use Rattle.checker.specs.Answered.Answered.{runRefused}
-use Rattle.checker.proofs.Parts.{head-is}
+use Rattle.checker.proofs.Parts.{judged-refused, judged-accepted, ready-tables}
 use Rattle.checker.proofs.finding.first_cut.Statement.{statement}
 use Rattle.checker.proofs.finding.first_cut.Tie as tie
 
 with-condition-requires : tie.Need-with-condition-requires
 with-condition-requires c κs =
+    let j = c .before .before .before .before .before .before .before .before .before .before .before .before .judge-run .ensures in
     let e = c .before .before .before .before .before .before .reading2 .given .1 in
-    let h = head-is _ (c .before .before .before .before .before .before .before .before .before .before .before .before .judge-run .ensures .0) e in
-    let w = rw (e, h) at (c .before .before .before .before .before .before .before .before .before .before .before .before .judge-run .ensures) in
-    (w .0, w .1, h)
+    let a = judged-accepted _ _ (j .0) e in
+    (a .1, ready-tables _ _ (j .1) e, a .0)
 
 returns : tie.Need-returns
-returns c = let w = rw (c .before .reading .given .1) at (c .before .before .before .before .before .before .before .judge-run .ensures) in runRefused _ (w .0) refl
+returns c = runRefused _ (judged-refused _ _ (c .before .before .before .before .before .before .before .judge-run .ensures .0) (c .before .reading .given .1)) refl
 
 pub first-cut-spec : {M : Type 1} → statement M
 first-cut-spec =

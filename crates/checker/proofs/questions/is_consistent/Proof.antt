@@ -1,6 +1,6 @@
 use borrow.Author.Needs.{needs}
 use Rattle.checker.specs.Questions.{AskedConsistent}
-use Rattle.checker.proofs.Cuts.{judged-refused, judged-accepted, ready-tables, tables-listed}
+use Rattle.checker.proofs.Parts.{judged-refused, judged-accepted, ready-tables, tables-listed}
 use Rattle.checker.proofs.questions.is_consistent.Statement.{statement}
 use Rattle.checker.proofs.questions.is_consistent.Tie as tie
 

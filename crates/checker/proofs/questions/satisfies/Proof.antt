@@ -1,6 +1,6 @@
 use borrow.Author.Needs.{needs}
 use Rattle.checker.specs.Questions.{AskedSatisfies}
-use Rattle.checker.proofs.Cuts.{judged-refused, judged-accepted, ready-tables}
+use Rattle.checker.proofs.Parts.{judged-refused, judged-accepted, ready-tables}
 use Rattle.checker.proofs.questions.satisfies.Statement.{statement}
 use Rattle.checker.proofs.questions.satisfies.Tie as tie
 

@@ -1,6 +1,6 @@
 use borrow.Author.Needs.{needs}
 use Rattle.checker.specs.Questions.{AskedSatisfies}
-use Rattle.checker.proofs.Conditions.{condition-refused, condition-given}
+use Rattle.checker.proofs.Parts.{condition-refused, condition-given}
 use Rattle.checker.proofs.questions.satisfies_in.Statement.{statement}
 use Rattle.checker.proofs.questions.satisfies_in.Tie as tie
 

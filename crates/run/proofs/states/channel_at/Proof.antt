@@ -1,11 +1,12 @@
 use borrow.Author.Needs.{needs}
+use mathlib.Core.Path.{refl}
 use Rattle.run.specs.States.{channelAt}
 use Rattle.run.proofs.states.channel_at.Statement.{statement}
 use Rattle.run.proofs.states.channel_at.Tie as tie
 
 returns : tie.Need-returns
 unfolding channelAt
-returns c = cc
+returns c = rw (c .before .u16-at .ensures, c .u16-at2 .ensures) refl
 
 pub channel-at-spec : {M : Type 1} → statement M
 channel-at-spec =

@@ -1,9 +1,10 @@
 use borrow.Author.Needs.{needs}
+use mathlib.Core.Path.{refl}
 use Rattle.run.proofs.states.state_at.Statement.{statement}
 use Rattle.run.proofs.states.state_at.Tie as tie
 
 returns : tie.Need-returns
-returns c = cc
+returns c = rw (c .event-of .ensures, c .before .fields-at .ensures) refl
 
 pub state-at-spec : {M : Type 1} → statement M
 state-at-spec =
