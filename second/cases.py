@@ -46,6 +46,17 @@ ANSWER_KINDS = (
     "found", "none", "yes", "no", "count", "shown", "nothing shown", "refused"
 )
 
+# The refusals that each file can have, those of lent places, cuts and channels
+# among the run's.
+REACHABLE = {
+    reading.RUN: (*range(1, 14), 15, 16, 17),
+    reading.CONDITION: (1, 2, 3, 4, 5, 7, 8, 14),
+}
+LINEAR_CLAUSES = [
+    *(("comparison", reading.KIND_LOCAL_CLAUSE, number) for number in range(1, 5)),
+    *(("test", reading.KIND_CHANNEL_CLAUSE, number) for number in range(1, 8)),
+]
+
 
 class Answer(NamedTuple):
     """The refusal is kept for the table also where the text doesn't show it."""
@@ -174,6 +185,26 @@ class Table:
         for test in range(1, 10):
             yield self.clause_line("test", reading.KIND_CHANNEL_CLAUSE, test)
 
+    def not_reached(self) -> Iterator[str]:
+        """What some case has to reach; 18 isn't among it, since no run gives it."""
+        for kind, name in QUESTION_NAMES.items():
+            if not self.questions[kind]:
+                yield f"question {name}"
+        for kind in ANSWER_KINDS:
+            if not self.answers[kind]:
+                yield f"answer {kind}"
+        for file, numbers in REACHABLE.items():
+            for number in numbers:
+                if not self.refusals[number, file, True]:
+                    yield f"refusal {number} of {file}"
+        for name, kind, number in LINEAR_CLAUSES:
+            for answer in ("found", "yes", "no"):
+                if not self.clauses[kind, number, answer]:
+                    yield f"{name} {number} with the answer {answer}"
+        for number in (8, 9):
+            if not self.clauses[reading.KIND_CHANNEL_CLAUSE, number, "refused"]:
+                yield f"test {number} refused"
+
     def refusal_line(self, number: int) -> str:
         run, condition = (
             self.refusals[number, file, True] for file in (reading.RUN, reading.CONDITION)
@@ -240,7 +271,10 @@ def main(arguments: list[str]) -> int:
     table = write_cases(int(arguments[0]), int(arguments[1]), *arguments[2:])
     for line in table.lines():
         print(line)
-    return 0
+    missing = list(table.not_reached())
+    for line in missing:
+        print(f"not reached: {line}")
+    return 1 if missing else 0
 
 
 if __name__ == "__main__":

@@ -3,19 +3,21 @@
 from __future__ import annotations
 
 import itertools
-from typing import Iterator, Sequence
+from typing import Iterator
 
 import encode
 from chance import Chance
 from damage import STATE_CLOCK_AT, get, of_kind, put
-from execution import (
-    EXTREMES,
-    Draft,
-    Step,
-    file_order,
-    run_of,
-    run_records,
-    simulate,
+from execution import EXTREMES, Step, file_order, run_of, run_records
+from fixed_runs import (
+    circle_draft,
+    draft_bytes,
+    lone_process,
+    longest_run,
+    many_states,
+    run_with_stamps,
+    too_long_run,
+    unpaired_run,
 )
 from marked import (
     NO_CLAUSE,
@@ -30,7 +32,8 @@ from marked import (
     two_desks,
     two_desks_records,
 )
-from model import INTERNAL, RECEIVE, SEND, START, Channel
+from model import INTERNAL, RECEIVE, SEND, START
+from named import named_cases
 from paired import (
     condition_faults_in_pairs,
     faults_in_both_files,
@@ -49,6 +52,20 @@ from reading import KIND_STATE, LONGEST_FILE, MOST_STATES
 
 
 def fixed_questions() -> Iterator[Question]:
+    """Each question once, with all that have a name among them."""
+    asked: set[Question] = set()
+    for question in itertools.chain(grouped_questions(), named_questions()):
+        if question not in asked:
+            asked.add(question)
+            yield question
+
+
+def named_questions() -> Iterator[Question]:
+    for case in named_cases():
+        yield case.question
+
+
+def grouped_questions() -> Iterator[Question]:
     for group in (
         marked_questions,
         marked_conditions_at_every_cut,
@@ -63,7 +80,6 @@ def fixed_questions() -> Iterator[Question]:
         file_limits,
         condition_file_limits,
         circles,
-        wrong_clocks,
         pairing_faults,
         faults_in_pairs,
         faults_in_one_state,
@@ -188,22 +204,6 @@ def clause_limits() -> Iterator[Question]:
         yield Question(SATISFIES, 0, (2, 2), two_desks(), condition)
 
 
-def many_states(count: int, last: bytes) -> bytes:
-    """Two processes, the first with this many states and then one more record."""
-    records = [encode.run_head(2, 1), encode.channel(0, 0, 1), *starts(2)]
-    for number in range(2, count + 1):
-        records.append(encode.state(0, INTERNAL, (number, 0), values=(number, 0, 0, 0)))
-    return b"".join([*records, last, encode.end()])
-
-
-def lone_process(count: int) -> bytes:
-    records = [encode.run_head(1, 0)]
-    for number in range(1, count + 1):
-        event = START if number == 1 else INTERNAL
-        records.append(encode.state(0, event, (number,), values=(number, 0, 0, -number)))
-    return b"".join([*records, encode.end()])
-
-
 def state_limits() -> Iterator[Question]:
     for constant in (MOST_STATES, MOST_STATES + 1):
         condition = encode.condition(encode.local_clause(0, 0, 1, constant))
@@ -225,29 +225,13 @@ def state_limits() -> Iterator[Question]:
         yield Question(SEARCH, 2, (), many_states(MOST_STATES, last), NO_CLAUSE)
 
 
-def run_of_size(process_count: int, channel_count: int, state_count: int) -> bytes:
-    chance = Chance(process_count * 1_000 + channel_count)
-    channels = [
-        Channel(number % process_count, (number + 1) % process_count)
-        for number in range(channel_count)
-    ]
-    draft = simulate(chance, process_count, channels, state_count)
-    return b"".join(run_records(run_of(draft, file_order(chance, draft, "merged"))))
-
-
 def file_limits() -> Iterator[Question]:
-    # All records have an even length, so no sound run is 65,535 bytes long:
-    # this one, of 65,534, is as long as a sound run can be.
-    longest = run_of_size(8, 2, 1310)
-    assert len(longest) == LONGEST_FILE - 1
+    longest = longest_run()
     condition = encode.condition(encode.channel_clause(1, 2, 3))
     yield Question(SEARCH, 8, (), longest, condition)
     yield Question(SEARCH, 8, (), longest + b"\x04", condition)
     yield Question(SEARCH, 8, (), longest + b"\x04\x00", condition)
-    # Well formed from its first byte to its last, and one byte too long.
-    too_long = run_of_size(5, 5, 1488)
-    assert len(too_long) == LONGEST_FILE + 1
-    yield Question(SHOWN, 8, (), too_long, condition)
+    yield Question(SHOWN, 8, (), too_long_run(), condition)
 
 
 def condition_file_limits() -> Iterator[Question]:
@@ -260,32 +244,7 @@ def condition_file_limits() -> Iterator[Question]:
     yield Question(SEARCH, 2, (), marked_wrong_clock(), filled + b"\x00")
 
 
-# Circles, clocks and pairing
-
-
-def circle_draft(process_count: int, hearers: int = 0) -> Draft:
-    """Each process of a ring receives from the one behind and then sends ahead.
-
-    The hearers are further processes to which the first one sends afterwards.
-    """
-    ring = range(process_count)
-    channels = [Channel(process, (process + 1) % process_count) for process in ring]
-    channels += [Channel(0, process_count + index) for index in range(hearers)]
-    draft = Draft(process_count + hearers, channels)
-    for process in range(process_count + hearers):
-        draft.add(process, Step(START))
-    for process in ring:
-        draft.add(process, Step(RECEIVE, (process - 1) % process_count, 3))
-        draft.add(process, Step(SEND, process, 3, 8))
-    for index in range(hearers):
-        draft.add(0, Step(SEND, process_count + index, index, 4))
-        draft.add(process_count + index, Step(INTERNAL))
-        draft.add(process_count + index, Step(RECEIVE, process_count + index, index))
-    return draft
-
-
-def draft_bytes(draft: Draft, order: list[int]) -> bytes:
-    return b"".join(run_records(run_of(draft, order)))
+# Circles and pairing
 
 
 def circles() -> Iterator[Question]:
@@ -322,37 +281,6 @@ def circles_with_other_faults() -> Iterator[Question]:
             yield Question(SEARCH, 8, (), b"".join(swapped), NO_CLAUSE)
 
 
-def wrong_clocks() -> Iterator[Question]:
-    chance = Chance(13)
-    channels = [Channel(0, 1), Channel(1, 2), Channel(2, 0)]
-    draft = simulate(chance, 3, channels, 14)
-    other_run = run_records(run_of(draft, file_order(chance, draft, "merged")))
-    for records in (two_desks_records(), other_run):
-        for index, record in enumerate(records):
-            if len(record) <= STATE_CLOCK_AT:
-                continue
-            for offset in range(STATE_CLOCK_AT, len(record), 2):
-                for difference in (-1, 1):
-                    changed = [bytearray(each) for each in records]
-                    put(changed[index], offset, get(changed[index], offset) + difference)
-                    yield Question(SEARCH, 3, (), b"".join(changed), NO_CLAUSE)
-
-
-def pairing_run(first: Sequence[Step], second: Sequence[Step], order: str) -> bytes:
-    """Two processes and two channels from the first to the second."""
-    records = [encode.run_head(2, 2), encode.channel(0, 0, 1), encode.channel(1, 0, 1)]
-    numbers = [0, 0]
-    histories = ([Step(START), *first], [Step(START), *second])
-    for letter in order:
-        process = int(letter)
-        step = histories[process][numbers[process]]
-        numbers[process] += 1
-        message = (step.channel, step.message, step.stamp)
-        # Pairing is judged ahead of clocks, which may be anything here.
-        records.append(encode.state(process, step.event, numbers, message))
-    return b"".join([*records, encode.end()])
-
-
 def pairing_faults() -> Iterator[Question]:
     send, send_on_other = Step(SEND, 0, 4, 1), Step(SEND, 1, 4, 1)
     receive, receive_on_other = Step(RECEIVE, 0, 4), Step(RECEIVE, 1, 4)
@@ -370,7 +298,7 @@ def pairing_faults() -> Iterator[Question]:
     ]
     for first, second in exchanges:
         for order in ("000111", "111000", "010101", "011100"):
-            yield Question(SEARCH, 2, (), pairing_run(first, second, order), NO_CLAUSE)
+            yield Question(SEARCH, 2, (), unpaired_run(first, second, order), NO_CLAUSE)
 
 
 # Cuts, channels and lent places that callers give
@@ -425,19 +353,6 @@ def comparisons_at_extremes() -> Iterator[Question]:
         for number in (2, 4, 8):
             condition = encode.condition(clause)
             yield Question(SATISFIES, 0, (number,), run, condition)
-
-
-def run_with_stamps(stamps: Sequence[int], received: Sequence[int]) -> bytes:
-    """One process sends a message for each stamp, the other receives some of them."""
-    draft = Draft(2, [Channel(0, 1)])
-    draft.add(0, Step(START))
-    draft.add(1, Step(START))
-    largest = 2**32 - 1
-    for index, stamp in enumerate(stamps):
-        draft.add(0, Step(SEND, 0, largest - index, stamp, (index, 0, 0, 0)))
-    for index in received:
-        draft.add(1, Step(RECEIVE, 0, largest - index, 0, (index, 0, 0, 0)))
-    return draft_bytes(draft, file_order(Chance(1), draft, "by process, last first"))
 
 
 def tests_at_extremes() -> Iterator[Question]:

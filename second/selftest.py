@@ -5,11 +5,12 @@ from __future__ import annotations
 import os
 import sys
 import tempfile
+from collections import Counter
 from typing import Callable, Iterator, Optional
 
 import encode
 from answer import answer_lines
-from cases import answer_of, decode_cases, encode_case
+from cases import Table, answer_of, decode_cases, encode_case
 from chance import Chance
 from conditions import Aim, draw_clause
 from damage import put
@@ -21,7 +22,8 @@ from execution import (
     run_of,
     simulate,
 )
-from fixed import circle_draft, draft_bytes, fixed_questions
+from fixed import fixed_questions
+from fixed_runs import circle_draft, draft_bytes
 from generate import seeded_questions
 from marked import (
     NO_CLAUSE,
@@ -49,8 +51,10 @@ from model import (
     process_to_move,
     stamps_in_transit,
 )
-from questions import Found, consistent, messages, satisfies, search, shown
+from named import named_cases
+from questions import Found, Question, consistent, messages, satisfies, search, shown
 from reading import Refusal, judge_run
+from shapes import SHAPES
 
 Outcome = tuple[str, object, object]
 Told = tuple[str, int, int, bool]
@@ -215,6 +219,41 @@ def bytes_shown() -> Iterator[Outcome]:
         ("shown for found", shown(run, NO_CLAUSE, 2), b""),
     ]:
         yield name, got, expected
+
+
+# The cases that have a name
+
+
+def answer_without_places(question: Question) -> str:
+    """A search's answer as the program prints it, without the line of lent places."""
+    lines = answer_of(question).text.splitlines(keepends=True)
+    return "".join(line for line in lines if not line.startswith("places"))
+
+
+def named_answers() -> Iterator[Outcome]:
+    for case in named_cases():
+        yield case.name, answer_without_places(case.question), case.expected
+
+
+def named_shapes() -> Iterator[Outcome]:
+    cases = list(named_cases())
+    present = {case.shape for case in cases}
+    for shape in SHAPES:
+        yield f"a case of the shape '{shape}'", shape in present, True
+    yield "shapes that no list has", sorted(present - set(SHAPES)), []
+    names = Counter(case.name for case in cases)
+    yield "names given twice", [name for name, count in names.items() if count > 1], []
+    asked = set(fixed_questions())
+    missing = [case.name for case in cases if case.question not in asked]
+    yield "named cases that are not asked", missing, []
+
+
+def everything_reached() -> Iterator[Outcome]:
+    table = Table()
+    for question in fixed_questions():
+        table.count(question, answer_of(question))
+    yield "not reached by fixed cases", list(table.not_reached()), []
+    yield "an empty table reaches nothing", len(list(Table().not_reached())), 72
 
 
 # Definitions against each other, on drawn runs
@@ -399,6 +438,9 @@ GROUPS: list[Callable[[], Iterator[Outcome]]] = [
     condition_refusals,
     order_of_refusals,
     bytes_shown,
+    named_answers,
+    named_shapes,
+    everything_reached,
     closure_by_paths,
     three_ways_of_consistency,
     enumeration_against_moving_up,

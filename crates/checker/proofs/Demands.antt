@@ -15,14 +15,18 @@ use Rattle.model.proofs.Order.{consistent-by-message}
 use Rattle.model.proofs.Decide.{has-first}
 use Rattle.model.proofs.Past.{nothing-past}
 use Rattle.model.proofs.Lattice.{first-unique, fewer-clauses, no-earlier}
-use Rattle.record.specs.Refusal.{orIf}
+use Rattle.record.specs.Refusal.{orIf, number, refusal}
+use Rattle.record.specs.Refusal.Reason.{noRoom}
 use Rattle.record.specs.Record.{headOf}
+use Rattle.record.specs.declared.File.the-variants.{Run}
 use Rattle.record.specs.declared.Head.{Head}
 use Rattle.record.specs.declared.Refusal.{Refusal}
+use Rattle.run.specs.declared.Reading.the-variants as R
 use Rattle.run.specs.Tables.{runIn}
 use Rattle.run.proofs.Listed.{processes-are, channels-are}
+use Rattle.judging.specs.Judged.{Judged}
 use Rattle.condition.specs.Read.{placesIn, readOf, clausesIn}
-use Rattle.condition.specs.Read.Verdict.{accepted}
+use Rattle.condition.specs.Read.Verdict.{refused, accepted}
 use Rattle.condition.specs.Clauses.{testOf}
 use Rattle.condition.specs.Judge.{testNo}
 use Rattle.condition.specs.declared.Test.{Test}
@@ -43,6 +47,18 @@ cutIn s lent = take (headOf s .processes) lent
 -- ---- demand 1
 
 module _ {s c lent lent′ : List ℕ} where
+  -- "Bad input is refused by number and place in the stated order": the whole run,
+  pub run-refused-first : {x : Refusal} {a : Answer} → Judged s (R.Refused x) → Answered s c lent lent′ a → a ≡ A.Refused x
+  run-refused-first v w = answered-one w (runRefused _ v refl) .0
+
+  -- the whole condition,
+  pub condition-refused-next : {x : Refusal} {a : Answer} → RunAccepted s → readOf c (headOf s) ≡ refused x → Answered s c lent lent′ a → a ≡ A.Refused x
+  condition-refused-next v e w = answered-one w (condRefused _ v e refl) .0
+
+  -- then 15.
+  pub no-room-last : {a : Answer} → Both s c → length lent < headOf s .processes → Answered s c lent lent′ a → a ≡ A.Refused (refusal Run (number noRoom) 0)
+  no-room-last v h w = answered-one w (few v h refl) .0
+
   -- "A refusal changes nothing in lent memory."
   pub refusal-changes-nothing : {x : Refusal} {a : Answer} → Answered s c lent lent′ a → a ≡ A.Refused x → lent′ ≡ lent
   refusal-changes-nothing (runRefused y v k) e = k

@@ -2,7 +2,6 @@
 use crate::Tally;
 use crate::compare::compares;
 use crate::tests::comparison_for;
-use crate::tests::test_passes;
 use model::Event;
 use record::bytes::signed_of;
 use run::states::state_at;
@@ -13,11 +12,10 @@ ghost use lib.ListN.{length};
 ghost use Rattle.model.specs.Run as Run;
 ghost use Rattle.model.specs.Run.{count, sending};
 ghost use Rattle.model.specs.Cut.{add, onChannel, between};
-ghost use Rattle.model.specs.Clause.{passes};
 ghost use Rattle.record.specs.Record.{fieldsAt};
 ghost use Rattle.run.specs.States.{eventOf};
 ghost use Rattle.run.specs.Tables.{runIn};
-ghost use Rattle.condition.specs.Clauses.{comparisonOf, testOf};
+ghost use Rattle.condition.specs.Clauses.{comparisonOf};
 ghost use Rattle.cut.specs.Tally.{stamped, tallyOf, asked};
 ghost use Rattle.cut.specs.Lent.{Lent};
 
@@ -103,23 +101,4 @@ pub fn tally_for(
     let comparison = comparison_for(test);
     let x = signed_of(operand);
     tally(run, places, partners, channel, from, a, b, comparison, x)
-}
-
-// A channel clause: test 1 to 7 of what is in transit.
-pub fn channel_holds(
-    run: &[u8],
-    places: &[u16],
-    partners: &[u16],
-    channel: u16,
-    from: u16,
-    a: u16,
-    b: u16,
-    test: u16,
-    operand: u32,
-) -> bool
-    requires { ⌜ Lent (now run) (now places) (now partners) × (from ≡ Run.channel (runIn (now run)) channel .from) × (a ≤ count (runIn (now run)) from) × (1 ≤ test) × (test ≤ 7) ⌝ }
-    ensures { λ r. ⌜ r ≡ passes (testOf test operand) (between (runIn (now (run .entry))) channel a b) ⌝ }
-{
-    let tally = tally_for(run, places, partners, channel, from, a, b, test, operand);
-    test_passes(test, operand, tally)
 }

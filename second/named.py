@@ -1,0 +1,46 @@
+"""The cases that have a name: what was asked for, shape by shape.
+
+    named.py
+
+Prints each shape with the number of its cases.
+"""
+
+from __future__ import annotations
+
+import sys
+from collections import Counter
+from typing import Iterator
+
+from named_clauses import named_clauses
+from named_conditions import named_conditions
+from named_cuts import named_cuts
+from named_faults import named_faults
+from named_order import named_order
+from named_pairs import named_pairs
+from named_runs import named_runs
+from naming import Named
+
+
+def named_cases() -> Iterator[Named]:
+    for group in (
+        named_order,
+        named_clauses,
+        named_conditions,
+        named_cuts,
+        named_runs,
+        named_faults,
+        named_pairs,
+    ):
+        yield from group()
+
+
+def main() -> int:
+    counts = Counter(case.shape for case in named_cases())
+    for shape, count in counts.items():
+        print(f"{count:4} {shape}")
+    print(f"{sum(counts.values())} cases of {len(counts)} shapes")
+    return 0
+
+
+if __name__ == "__main__":
+    sys.exit(main())

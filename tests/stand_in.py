@@ -1,0 +1,94 @@
+"""A stand-in for the program, made of the second program, with one mistake or none.
+
+    stand_in.py MISTAKE [FOLDER | RUN COND]
+
+It shows that the tests of the program fail where a program is wrong.
+"""
+
+from __future__ import annotations
+
+import os
+import sys
+from pathlib import Path
+from typing import Optional
+
+sys.path.insert(0, str(Path(__file__).resolve().parent.parent / "second"))
+
+from answer import found_lines, read_file, refused_line  # noqa: E402
+from questions import search  # noqa: E402
+from reading import CONDITION, LONGEST_FILE, MOST_PROCESSES, RUN, Refusal  # noqa: E402
+
+# Each mistake with a situation in which it shows.
+MISTAKES = {
+    "the run judged ahead of reading the condition": "the run refused, the condition missing",
+    "the condition read first": "both missing",
+    "a folder taken for an empty file": "a folder as the run",
+    "a long file cut to 65,535 bytes": "a run of 65,536 bytes",
+    "a long file unreadable": "a condition of 200,000 bytes",
+    "the words not looked at": "two files",
+    "the folder not looked at": "a folder",
+    "no line end after the last line": "marked case 6",
+    "the counts left out": "no word",
+    "the answer on standard error": "marked case 10",
+}
+
+
+def paths_of(mistake: str, words: list[str]) -> tuple[str, str]:
+    if len(words) == 2 and mistake != "the words not looked at":
+        return words[0], words[1]
+    folder = words[0] if len(words) == 1 and mistake != "the folder not looked at" else "."
+    return os.path.join(folder, "run.rec"), os.path.join(folder, "cond.rec")
+
+
+def read_by(mistake: str, path: str) -> Optional[bytes]:
+    data = read_file(path)
+    if mistake == "a folder taken for an empty file" and os.path.isdir(path):
+        return b""
+    if data is None or len(data) <= LONGEST_FILE:
+        return data
+    if mistake == "a long file unreadable":
+        return None
+    return data[:LONGEST_FILE] if mistake == "a long file cut to 65,535 bytes" else data
+
+
+def judged(run: bytes, condition: bytes) -> list[str]:
+    try:
+        return found_lines(search(run, condition, MOST_PROCESSES))
+    except Refusal as refusal:
+        return [refused_line(refusal)]
+
+
+def lines_of(mistake: str, run_path: str, condition_path: str) -> list[str]:
+    run, condition = read_by(mistake, run_path), read_by(mistake, condition_path)
+    unreadable = [
+        f"unreadable {file}"
+        for file, data in ((RUN, run), (CONDITION, condition))
+        if data is None
+    ]
+    if mistake == "the condition read first":
+        unreadable.reverse()
+    if mistake == "the run judged ahead of reading the condition" and run is not None:
+        alone = judged(run, b"")
+        if alone[0].startswith("refused run"):
+            return alone
+    return unreadable[:1] or judged(run or b"", condition or b"")
+
+
+def main(arguments: list[str]) -> int:
+    mistake, *words = arguments
+    if len(words) > 2:
+        print("usage: stand_in.py MISTAKE [FOLDER | RUN COND]", file=sys.stderr)
+        return 2
+    lines = lines_of(mistake, *paths_of(mistake, words))
+    if mistake == "the counts left out":
+        lines = [line for line in lines if not line.startswith("channel")]
+    text = "".join(line + "\n" for line in lines)
+    if mistake == "no line end after the last line":
+        text = text[:-1]
+    stream = sys.stderr if mistake == "the answer on standard error" else sys.stdout
+    stream.write(text)
+    return 0
+
+
+if __name__ == "__main__":
+    sys.exit(main(sys.argv[1:]))
