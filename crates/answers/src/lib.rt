@@ -1,7 +1,9 @@
 // The lines that the programs print on standard output.
 use checker::Answer;
 use checker::Count;
+use checker::Counts;
 use checker::Verdict;
+use checker::listing::messages_on_each;
 use libc::STDOUT_FILENO;
 use record::File;
 use record::Refusal;
@@ -42,51 +44,49 @@ fn refused(refusal: Refusal) {
     }
 }
 
-fn state_line(process: usize, state: u16) {
-    pair_line(b"state", process, state as usize);
+fn place_line(word: &[u8], place: usize, number: u16) {
+    pair_line(word, place, number as usize);
 }
 
-fn states(cut: &[u16]) {
-    let mut process: usize = 0;
-    while process < cut.len() {
-        state_line(process, cut[process]);
-        process += 1;
+// A line for each place: a process and its state, or a channel and its messages.
+fn lines(word: &[u8], row: &[u16]) {
+    let mut i: usize = 0;
+    while i < row.len() {
+        place_line(word, i, row[i]);
+        i += 1;
     }
 }
 
-fn channel_line(run: &[u8], cut: &[u16], channel: u16) {
-    let count = checker::questions::messages_on(run, cut, channel);
-    match count {
-        Count::Messages(n) => pair_line(b"channel", channel as usize, n),
-        Count::Refused(refusal) => refused(refusal),
-    }
-}
-
-fn channels(run: &[u8], cut: &[u16]) {
-    let all = head_of(run).channels;
-    let mut channel: u16 = 0;
-    while channel < all {
-        channel_line(run, cut, channel);
-        channel += 1;
-    }
-}
-
-// How many of the lent places the cut fills.
-fn filled(run: &[u8], places: &[u16]) -> usize
+// How many of the lent places are filled where n numbers were written.
+fn filled(n: u16, places: &[u16]) -> usize
     ensures { λ r. ⌜ r ≤ length (now (places .entry)) ⌝ }
 {
-    let processes = head_of(run).processes as usize;
-    if processes < places.len() {
-        processes
+    let all = n as usize;
+    if all < places.len() {
+        all
     } else {
         places.len()
     }
 }
 
+fn channel_lines(run: &[u8], row: &[u16]) {
+    let n = filled(head_of(run).channels, row);
+    lines(b"channel", &row[..n]);
+}
+
+fn channels(run: &[u8], cut: &[u16]) {
+    let mut row = [0u16; 16];
+    let counts = messages_on_each(run, cut, &mut row);
+    match counts {
+        Counts::Listed => channel_lines(run, &row),
+        Counts::Refused(refusal) => refused(refusal),
+    }
+}
+
 fn found(run: &[u8], places: &[u16]) {
-    let n = filled(run, places);
+    let n = filled(head_of(run).processes, places);
     text(b"found\n");
-    states(&places[..n]);
+    lines(b"state", &places[..n]);
     channels(run, &places[..n]);
 }
 

@@ -3,17 +3,21 @@ use mathlib.Core.Path.{_≡_, refl, sym, _∙_, subst}
 use mathlib.Core.Logic.{_↔_}
 use mathlib.Core.Bool.{Bool, true, false, not, _||_}
 use mathlib.Core.List.{List}
-use Prim.Native.Nat.{ℕ, zero, suc, _≤_, _<_}
+use mathlib.Core.Option.{Option, some, none}
+use Prim.Native.Nat.{ℕ, zero, suc, _≤_, _<_, zero-le}
 use native.Mathlib.Omega.{arith}
 use borrow.Author.Tests.{eqb-true, eqb-false, ltb-true, ltb-false}
 use lib.Dec.{eqb, ltb}
-use Rattle.model.specs.Run.{processes}
-use Rattle.model.specs.Cut.{at, IsCut}
+use lib.ListN.{length}
+use Rattle.model.specs.declared.Message.{Message}
+use Rattle.model.specs.Run.{processes, channel}
+use Rattle.model.specs.Cut.{at, IsCut, add, upTo, waiting, between, inTransit}
 use Rattle.record.specs.Record.{headOf}
 use Rattle.record.specs.declared.Head.{Head}
-use Rattle.run.specs.Tables.{runIn, Listed}
-use Rattle.run.proofs.Listed.{ok, processes-are, placed-few, listed-places, listed-count}
+use Rattle.run.specs.Tables.{runIn, Listed, Tables}
+use Rattle.run.proofs.Listed.{ok, processes-are, channels-are, placed-few, listed-places, listed-count}
 use Rattle.cut.specs.Clocks.{InTable}
+use Rattle.cut.proofs.Stored.{states-few}
 use Rattle.checker.specs.Questions.{Chosen}
 
 -- the test of one number
@@ -84,3 +88,23 @@ module _ (s cs ps : List ℕ) (w : Listed s cs ps) where
           let d = told .1 (subst (λ h. Chosen cs cut (h .processes)) (sym same) (cut-chosen cut is)) in
           let f = denied t e in
           let z : _≡_ {A = ℕ} 0 1 = cc in omega arith
+
+-- ---- what is in transit
+
+upTo-few : (f : ℕ → Option Message) (a : ℕ) → length (upTo f a) ≤ a
+upTo-few f zero = zero-le
+upTo-few f (suc a) = go (f (suc a)) (upTo-few f a)
+  where
+    go : (m : Option Message) → length (upTo f a) ≤ a → length (add m (upTo f a)) ≤ suc a
+    go none h = omega arith
+    go (some m) h = omega arith
+
+-- no more than the sender has states
+pub transit-few : {s cs ps ns ks : List ℕ} → Tables s cs ps ns ks → (cut : List ℕ) → IsCut (runIn s) cut → (c : ℕ) → c < headOf s .channels
+    → length (inTransit (runIn s) cut c) ≤ 512
+unfolding inTransit between
+transit-few {s} w cut is c h =
+    let r = runIn s in
+    let from = channel r c .from in
+    let known = w .known .sides .ends c (omega (arith, channels-are s (w .read))) .0 in
+    omega (arith, upTo-few (waiting r c (at cut (channel r c .to))) (at cut from), states-few w (is .states from known))

@@ -19,12 +19,14 @@ use Rattle.checker.specs.declared.Answer.{Answer}
 use Rattle.checker.specs.declared.Answer.the-variants as A
 use Rattle.checker.specs.declared.Count.{Count}
 use Rattle.checker.specs.declared.Count.the-variants as C
+use Rattle.checker.specs.declared.Counts.{Counts}
+use Rattle.checker.specs.declared.Counts.the-variants as N
 use Rattle.checker.specs.declared.Verdict.{Verdict}
 use Rattle.checker.specs.declared.Verdict.the-variants as W
 use Rattle.checker.specs.Accepted.{RunAccepted}
 use Rattle.checker.specs.Answered.{Wrote, Answered}
 use Rattle.checker.specs.Answered.Answered.{runRefused, condRefused, few, nowhere, tooEarly, found}
-use Rattle.checker.specs.Questions.{AskedConsistent, AskedMessages, AskedSatisfies}
+use Rattle.checker.specs.Questions.{AskedConsistent, AskedMessages, AskedEach, AskedSatisfies}
 
 -- the lent places are determined by the cut
 pub wrote-one : {cut lent a b : List ℕ} → Wrote cut lent a → Wrote cut lent b → a ≡ b
@@ -122,6 +124,24 @@ module _ {s : List ℕ} where
   messages-one (AskedMessages.messages j i g) (AskedMessages.wrongCut k m) = absurd (m i)
   messages-one (AskedMessages.messages j i g) (AskedMessages.noChannel k l h) = absurd (omega (arith, g, h))
   messages-one (AskedMessages.messages j i g) (AskedMessages.messages k l h) = refl
+
+  pub each-one : {cut lent l m : List ℕ} {a b : Counts} → AskedEach s cut lent l a → AskedEach s cut lent m b → (a ≡ b) × (l ≡ m)
+  each-one (AskedEach.runRefused x j d) (AskedEach.runRefused y k e) = (ap N.Refused (same-refusal j k), d ∙ sym e)
+  each-one (AskedEach.runRefused x j d) (AskedEach.wrongCut k m e) = absurd (not-both j k)
+  each-one (AskedEach.runRefused x j d) (AskedEach.few k l h e) = absurd (not-both j k)
+  each-one (AskedEach.runRefused x j d) (AskedEach.listed k l h v) = absurd (not-both j k)
+  each-one (AskedEach.wrongCut j n d) (AskedEach.runRefused y k e) = absurd (not-both k j)
+  each-one (AskedEach.wrongCut j n d) (AskedEach.wrongCut k m e) = (refl, d ∙ sym e)
+  each-one (AskedEach.wrongCut j n d) (AskedEach.few k l h e) = absurd (n l)
+  each-one (AskedEach.wrongCut j n d) (AskedEach.listed k l h v) = absurd (n l)
+  each-one (AskedEach.few j i g d) (AskedEach.runRefused y k e) = absurd (not-both k j)
+  each-one (AskedEach.few j i g d) (AskedEach.wrongCut k m e) = absurd (m i)
+  each-one (AskedEach.few j i g d) (AskedEach.few k l h e) = (refl, d ∙ sym e)
+  each-one (AskedEach.few j i g d) (AskedEach.listed k l h v) = absurd (omega (arith, g, h))
+  each-one (AskedEach.listed j i g w) (AskedEach.runRefused y k e) = absurd (not-both k j)
+  each-one (AskedEach.listed j i g w) (AskedEach.wrongCut k m e) = absurd (m i)
+  each-one (AskedEach.listed j i g w) (AskedEach.few k l h e) = absurd (omega (arith, g, h))
+  each-one (AskedEach.listed j i g w) (AskedEach.listed k l h v) = (refl, wrote-one w v)
 
   pub satisfies-one : {c cut : List ℕ} {a b : Verdict} → AskedSatisfies s c cut a → AskedSatisfies s c cut b → a ≡ b
   satisfies-one (AskedSatisfies.runRefused x j) (AskedSatisfies.runRefused y k) = ap W.Refused (same-refusal j k)

@@ -20,11 +20,11 @@ use Rattle.checker.specs.Accepted.{RunAccepted, Both}
 use Rattle.checker.specs.declared.Answer.{Answer}
 use Rattle.checker.specs.declared.Answer.the-variants as A
 
--- the cut stands in the first places, and those past it are as they were
-pub record Wrote (cut lent lent′ : List ℕ) : Type 0 where
+-- the row stands in the first places, and those past it are as they were
+pub record Wrote (row lent lent′ : List ℕ) : Type 0 where
   pub long : length lent′ ≡ length lent
-  pub front : (i : ℕ) → i < length cut → getD lent′ i 0 ≡ at cut i
-  pub past : (i : ℕ) → length cut ≤ i → getD lent′ i 0 ≡ getD lent i 0
+  pub front : (i : ℕ) → i < length row → getD lent′ i 0 ≡ at row i
+  pub past : (i : ℕ) → length row ≤ i → getD lent′ i 0 ≡ getD lent i 0
 
 -- in this order: the run is refused, the condition is, the lent places are too few; none, the cut has a receive whose send is past it, found
 pub data Answered (s c lent lent′ : List ℕ) : Answer → Type 0 where

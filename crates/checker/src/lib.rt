@@ -1,5 +1,6 @@
 // The public calls over raw bytes. Each judges the whole run first, then the condition, and only then answers.
 pub mod finding;
+pub mod listing;
 pub mod questions;
 pub mod showing;
 
@@ -21,5 +22,11 @@ pub enum Verdict {
 // How many messages are in transit on a channel.
 pub enum Count {
     Messages(usize),
+    Refused(Refusal),
+}
+
+// Whether the number of messages on each channel stands in the lent places.
+pub enum Counts {
+    Listed,
     Refused(Refusal),
 }

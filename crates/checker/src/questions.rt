@@ -29,7 +29,7 @@ ghost use Rattle.checker.specs.Accepted.{RunAccepted};
 ghost use Rattle.checker.specs.Questions.{Chosen, AskedConsistent, AskedMessages, AskedSatisfies};
 
 // A cut names one state of each process.
-fn cut_is(counts: &[u16], cut: &[u16], n: u16) -> bool
+pub(crate) fn cut_is(counts: &[u16], cut: &[u16], n: u16) -> bool
     requires { ⌜ (length (now counts) ≡ 8) × (n ≤ 8) ⌝ }
     ensures { λ r. ⌜ (r ≡ true) ↔ Chosen (now (counts .entry)) (now (cut .entry)) n ⌝ }
 {
@@ -83,9 +83,15 @@ pub fn is_consistent(run: &[u8], cut: &[u16]) -> Verdict
 }
 
 // How many messages are on a channel. Any test would do: only the count is used.
-fn in_transit(run: &[u8], places: &[u16], partners: &[u16], cut: &[u16], channel: u16) -> usize
+pub(crate) fn in_transit(
+    run: &[u8],
+    places: &[u16],
+    partners: &[u16],
+    cut: &[u16],
+    channel: u16,
+) -> usize
     requires { ⌜ Lent (now run) (now places) (now partners) × IsCut (runIn (now run)) (now cut) × (channel < headOf (now run) .channels) ⌝ }
-    ensures { λ r. ⌜ r ≡ length (inTransit (runIn (now (run .entry))) (now (cut .entry)) channel) ⌝ }
+    ensures { λ r. ⌜ (r ≡ length (inTransit (runIn (now (run .entry))) (now (cut .entry)) channel)) × (r ≤ 512) ⌝ }
 {
     let ends = channel_at(run, channel);
     let from = ends.from as usize;

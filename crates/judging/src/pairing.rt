@@ -4,7 +4,6 @@ use crate::First;
 use crate::faults::earliest;
 use model::Event;
 use model::Message;
-use run::pass::clear;
 use run::states::channel_at;
 use run::states::state_at;
 ghost use mathlib.Core.Path.{_≡_};
@@ -233,10 +232,9 @@ pub fn first_unpaired(
     partners: &mut [u16],
     n: u16,
 ) -> First
-    requires { ⌜ Listed (now run) (now counts) (now places) × (length (now partners) ≡ 4096) × (n ≡ headOf (now run) .processes) ⌝ }
+    requires { ⌜ Listed (now run) (now counts) (now places) × (now partners ≡ replicate 4096 0) × (n ≡ headOf (now run) .processes) ⌝ }
     ensures { λ r. ⌜ PairingJudged (now (run .entry)) (now (partners .exit)) r ⌝ }
 {
-    clear(partners);
     let mut bad = [0u16; 8];
     pair_all(run, counts, places, partners, &mut bad, n);
     earliest(run, places, &bad, n)

@@ -14,7 +14,7 @@ use run::Reading;
 use run::pass::read_run;
 ghost use mathlib.Core.Path.{_≡_};
 ghost use Prim.Native.Nat.{ℕ, _+_, _≤_, _<_};
-ghost use lib.ListN.{length, getD};
+ghost use lib.ListN.{length, getD, replicate};
 ghost use Rattle.model.specs.Run.{Known};
 ghost use Rattle.record.specs.Record.{headOf};
 ghost use Rattle.model.specs.Cut.{Clocks};
@@ -86,7 +86,7 @@ fn judge_states(
     clocks: &mut [u16],
     head: Head,
 ) -> Reading
-    requires { ⌜ Listed (now run) (now counts) (now places) × (length (now partners) ≡ 4096) × (length (now clocks) ≡ 32768) × (head ≡ headOf (now run)) ⌝ }
+    requires { ⌜ Listed (now run) (now counts) (now places) × (now partners ≡ replicate 4096 0) × (length (now clocks) ≡ 32768) × (head ≡ headOf (now run)) ⌝ }
     ensures { λ r. ⌜ Judged (now (run .entry)) r × Ready (now (run .entry)) (now (counts .entry)) (now (places .entry)) (now (partners .exit)) (now (clocks .exit)) r ⌝ }
 {
     let n = head.processes;
@@ -105,7 +105,7 @@ fn judge_states(
     Reading::Accepted(head)
 }
 
-// A whole run: its tables filled, or the first refusal.
+// A whole run: its tables filled, or the first refusal. The partners come as zeros, which every caller has just made them.
 pub fn judge_run(
     run: &[u8],
     counts: &mut [u16],
@@ -113,7 +113,7 @@ pub fn judge_run(
     partners: &mut [u16],
     clocks: &mut [u16],
 ) -> Reading
-    requires { ⌜ (length (now counts) ≡ 8) × (length (now places) ≡ 4096) × (length (now partners) ≡ 4096) × (length (now clocks) ≡ 32768) ⌝ }
+    requires { ⌜ (length (now counts) ≡ 8) × (length (now places) ≡ 4096) × (now partners ≡ replicate 4096 0) × (length (now clocks) ≡ 32768) ⌝ }
     ensures { λ r. ⌜ Judged (now (run .entry)) r × Ready (now (run .entry)) (now (counts .exit)) (now (places .exit)) (now (partners .exit)) (now (clocks .exit)) r ⌝ }
 {
     let reading = read_run(run, counts, places);

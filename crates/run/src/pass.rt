@@ -18,7 +18,7 @@ ghost use Rattle.run.specs.Read.{isEnd, reading, readFrom, readOf, Passe
 ghost use Rattle.run.specs.Inner.{handUp, Roomy, Noted};
 
 // All zero.
-pub fn clear(t: &mut [u16])
+fn clear(t: &mut [u16])
     ensures { λ _. ⌜ now (t .exit) ≡ replicate (length (now (t .entry))) 0 ⌝ }
 {
     let mut i = 0;

@@ -8,6 +8,7 @@ use Rattle.run.specs.Tables.{runIn}
 use Rattle.run.proofs.Listed.{ok, processes-are, channel-is}
 use Rattle.cut.specs.Tally.{tallyOf, asked}
 use Rattle.cut.proofs.Passed.{tally-count}
+use Rattle.checker.proofs.Cuts.{transit-few}
 use Rattle.checker.proofs.questions.in_transit.Statement.{statement}
 use Rattle.checker.proofs.questions.in_transit.Tie as tie
 
@@ -47,7 +48,8 @@ returns c =
     let e = c .before .before .before .before .before .channel-at .ensures ∙ sym (channel-is _ (r .0 .tables .read) _ (r .2)) in
     let s = runIn (a .run .now) in
     let w = c .tally-for .ensures ∙ ap (λ v. tallyOf (asked 1 0) (between s (a .channel) (at (a .cut .now) (v .from)) (at (a .cut .now) (v .to)))) e in
-    tally-count _ _ w
+    let e = tally-count _ _ w in
+    (e, omega (arith, e, transit-few (r .0 .tables) (a .cut .now) (r .1) (a .channel) (r .2)))
 
 pub in-transit-spec : {M : Type 1} → statement M
 in-transit-spec =

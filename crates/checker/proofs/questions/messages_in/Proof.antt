@@ -31,7 +31,7 @@ returns-3 : tie.Need-returns-3
 returns-3 c =
     let r = c .before .before .before .before .before .before .before .before .before .before .pre in
     let is = told-cut _ _ _ (r .0) _ (r .3) _ (c .before .before .before .before .cut-is .ensures) (c .before .before .before .if1 .left) in
-    rw (c .in-transit .ensures) (AskedMessages.messages (r .2) is (omega (arith, c .before .if2 .left, ap (λ h. h .channels) (r .3))))
+    rw (c .in-transit .ensures .0) (AskedMessages.messages (r .2) is (omega (arith, c .before .if2 .left, ap (λ h. h .channels) (r .3))))
 
 pub messages-in-spec : {M : Type 1} → statement M
 messages-in-spec =
