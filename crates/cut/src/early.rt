@@ -23,7 +23,7 @@ fn sent_past(run: &[u8], places: &[u16], partners: &[u16], cut: &[u16], p: u16, 
         Event::Send(_) => false,
         Event::Receive(m) => {
             let from = channel_at(run, m.channel).from as usize;
-            let slot = slot_of(p, k);
+            let slot = slot_of(p as usize, k);
             cut[from] < partners[slot]
         }
     }

@@ -137,9 +137,9 @@ fn enter(
     if l == 0 {
         return true;
     }
-    let from = channel_at(run, message.channel).from;
+    let from = channel_at(run, message.channel).from as usize;
     let other = slot_of(from, l);
-    let own = slot_of(p, k);
+    let own = slot_of(p as usize, k);
     partners[other] = k;
     partners[own] = l;
     false
