@@ -1,5 +1,6 @@
 // The clock test: a cut is consistent if place i of j's clock is less than i's chosen number, for all i and j that differ.
 use crate::Behind;
+use run::slots::slot_of;
 ghost use mathlib.Core.Path.{_≡_};
 ghost use mathlib.Core.Logic.{_↔_};
 ghost use mathlib.Core.Bool.{true};
@@ -15,7 +16,7 @@ pub fn behind(clocks: &[u16], cut: &[u16], j: usize) -> Behind
     requires { ⌜ (length (now clocks) ≡ 32768) × InTable (now cut) × (j < length (now cut)) ⌝ }
     ensures { λ r. ⌜ r ≡ behindOf (clockIn (now (clocks .entry))) (now (cut .entry)) j ⌝ }
 {
-    let row = 8 * (512 * j + (cut[j] as usize - 1));
+    let row = 8 * slot_of(j, cut[j]);
     let mut i = 0;
     while i < cut.len() {
         if (i != j) & (cut[i] <= clocks[row + i]) {

@@ -1,7 +1,8 @@
 // 18: a message that is received up to the cut and sent past it. This test goes by messages, where `clocks` goes by clocks.
 use model::Event;
+use run::slots::event_at;
+use run::slots::slot_of;
 use run::states::channel_at;
-use run::states::state_at;
 ghost use mathlib.Core.Path.{_≡_};
 ghost use Prim.Native.Nat.{_<_};
 ghost use Rattle.model.specs.Run.{IsState, processes};
@@ -15,15 +16,14 @@ fn sent_past(run: &[u8], places: &[u16], partners: &[u16], cut: &[u16], p: u16, 
     requires { ⌜ Lent (now run) (now places) (now partners) × IsCut (runIn (now run)) (now cut) × IsState (runIn (now run)) p k ⌝ }
     ensures { λ r. ⌜ PastIs (runIn (now (run .entry))) (now (cut .entry)) p k r ⌝ }
 {
-    let slot = 512 * (p as usize) + (k as usize - 1);
-    let state = state_at(run, places[slot] as usize);
-    let event = state.event;
+    let event = event_at(run, places, p, k);
     match event {
         Event::Start => false,
         Event::Internal => false,
         Event::Send(_) => false,
         Event::Receive(m) => {
             let from = channel_at(run, m.channel).from as usize;
+            let slot = slot_of(p as usize, k);
             cut[from] < partners[slot]
         }
     }

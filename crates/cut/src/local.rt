@@ -1,6 +1,7 @@
 // Local clauses: a value of a state, compared.
 use crate::compare::compares;
 use record::bytes::i32_at;
+use run::slots::place_of;
 ghost use mathlib.Core.Path.{_≡_};
 ghost use Prim.Native.Nat.{_<_};
 ghost use lib.IntN.{pos};
@@ -24,8 +25,7 @@ pub fn local_holds(
     requires { ⌜ Placed (now run) (now places) × IsState (runIn (now run)) process k × (value < 4) ⌝ }
     ensures { λ r. ⌜ r ≡ M.compares (comparisonOf comparison) (getD (state (runIn (now (run .entry))) process k .values) value (pos 0)) constant ⌝ }
 {
-    let slot = 512 * (process as usize) + (k as usize - 1);
-    let at = places[slot] as usize + 18 + 4 * (value as usize);
+    let at = place_of(places, process, k) + 18 + 4 * (value as usize);
     let held = i32_at(run, at);
     compares(comparison, held, constant)
 }

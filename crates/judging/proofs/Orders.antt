@@ -315,25 +315,31 @@ ordered s n done done′ ks b e w t = record {
 
 -- ---- clocks other than the table's
 
-module _ (s ks : List ℕ) (right : Clocks (runIn s) (clockIn ks)) (p k q : ℕ) (place : q ≡ placeOf s p k) (t : IsState (runIn s) p k) where
+module _ (s ks : List ℕ) (right : Clocks (runIn s) (clockIn ks)) (p k q entry : ℕ) (place : q ≡ placeOf s p k) (here : entry ≡ slot p k) (t : IsState (runIn s) p k) where
   abbrev recorded : ℕ → ℕ
   recorded x = u16At s (q + 34 + 2 * x)
+
+  abbrev listed : ℕ → ℕ
+  listed x = getD ks (8 * entry + x) 0
 
   same-place : (x : ℕ) → recorded x ≡ u16At s (placeOf s p k + 34 + 2 * x)
   same-place x = ap (λ q. u16At s (q + 34 + 2 * x)) place
 
-  pub compared-differs : (x y : ℕ) → x < processes (runIn s) → y ≡ recorded x → y ≢ clockIn ks p k x → Compared s p k true
+  same-entry : (x : ℕ) → listed x ≡ clockIn ks p k x
+  same-entry x = ap (λ i. getD ks (8 * i + x) 0) here
+
+  pub compared-differs : (x y : ℕ) → x < processes (runIn s) → y ≡ recorded x → y ≢ listed x → Compared s p k true
   unfolding Clocks
   compared-differs x y h e n = record {
-    differs = λ z. record { place = x; there = h; wrong = λ c. n (e ∙ same-place x ∙ clock-unique c (right p k x t h)) };
+    differs = λ z. record { place = x; there = h; wrong = λ c. n (e ∙ same-place x ∙ clock-unique c (right p k x t h) ∙ sym (same-entry x)) };
     agrees = λ z. absurd (let z : _≡_ {A = ℕ} 0 1 = cc in omega arith);
   }
 
-  pub compared-agrees : (n : ℕ) → n ≡ processes (runIn s) → ((x : ℕ) → x < n → recorded x ≡ clockIn ks p k x) → Compared s p k false
+  pub compared-agrees : (n : ℕ) → n ≡ processes (runIn s) → ((x : ℕ) → x < n → recorded x ≡ listed x) → Compared s p k false
   unfolding Clocks
   compared-agrees n e w = record {
     differs = λ z. absurd (let z : _≡_ {A = ℕ} 0 1 = cc in omega arith);
-    agrees = λ z v. v .wrong (subst (ClockIs (runIn s) p k (v .place)) (sym (w (v .place) (omega (arith, e, v .there))) ∙ same-place (v .place)) (right p k (v .place) t (v .there)));
+    agrees = λ z v. v .wrong (subst (ClockIs (runIn s) p k (v .place)) (sym (w (v .place) (omega (arith, e, v .there)) ∙ same-entry (v .place)) ∙ same-place (v .place)) (right p k (v .place) t (v .there)));
   }
 
 module _ (s : List ℕ) (Fault : ℕ → ℕ → Type 0) where

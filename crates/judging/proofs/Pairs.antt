@@ -257,6 +257,6 @@ module _ (r : Run) (sides : Sides r) (p k : ℕ) (m : Message) (g : into r p k �
   }
 
   pub found-in : (x : ℕ) → x ≢ 0 → Found r (channel r (m .channel) .from) 1 (count r (channel r (m .channel) .from)) true m x
-      → (1 ≤ x) × (x ≤ count r (channel r (m .channel) .from))
+      → IsState r (channel r (m .channel) .from) x
   found-in x z (nowhere e w) = absurd (z e)
-  found-in x z (here a c t) = (a, c)
+  found-in x z (here a c t) = record { counted = a; there = c }

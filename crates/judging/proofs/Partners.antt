@@ -10,13 +10,16 @@ use native.Mathlib.Decide.{ℕ-discrete}
 use native.Mathlib.Omega.{arith}
 use lib.ListN.{length, getD, set, replicate, length-set, length-replicate, getD-replicate, List·getD-eq-default}
 use lib.Seq.{getD-set-same, getD-set-other}
+use Rattle.model.specs.declared.Channel.{Channel}
 use Rattle.model.specs.declared.Message.{Message}
 use Rattle.model.specs.declared.Event.the-variants.{Start, Send, Receive}
-use Rattle.model.specs.Run.{Run, state, into, count, IsState, Paired}
+use Rattle.model.specs.Run.{Run, state, into, count, channel, IsState, Paired}
 use Rattle.model.proofs.Lists.{le-or-lt}
 use Rattle.model.proofs.Pairing.{view, sent-there, received-there}
+use Rattle.run.specs.States.{channelAt}
 use Rattle.run.specs.Tables.{runIn, slot, Listed}
-use Rattle.run.proofs.Listed.{process-of, placed-eight, placed-few, listed-places}
+use Rattle.record.specs.Record.{headOf}
+use Rattle.run.proofs.Listed.{ok, channel-is, process-of, placed-eight, placed-few, listed-places, listed-count, listed-eight}
 use Rattle.judging.specs.Pairing.{which, Rising, Clear, Faulty, Backed, Met, Entered, Settled, Row, Rows}
 
 -- few enough states that each has its own entry
@@ -29,6 +32,33 @@ pub record Partway (r : Run) (p k : ℕ) (ns ns′ : List ℕ) : Type 0 where
   pub backed : Backed r ns → Backed r ns′
   pub met : (l : ℕ) → IsState r p l → l < k → Met r ns′ p l
   pub kept : (j l : ℕ) → IsState r j l → j ≢ p → Met r ns j l → Met r ns′ j l
+
+-- where the tables have a process
+pub record RowOf (s cs : List ℕ) (p : ℕ) : Type 0 where
+  pub eight : p < 8
+  pub room : p < length cs
+  pub counted : getD cs p 0 ≡ count (runIn s) p
+  pub few : count (runIn s) p ≤ 512
+
+pub row-of : {s cs ps : List ℕ} {n p : ℕ} → Listed s cs ps → n ≡ headOf s .processes → p < n → RowOf s cs p
+row-of {s} {cs} {ps} {n} {p} w e l =
+    let h : p < headOf s .processes = omega arith in
+    let eight = placed-eight s ps (listed-places w) p h in
+    record { eight = eight; room = omega (arith, listed-eight w); counted = listed-count s cs ps w p h; few = placed-few s ps (listed-places w) p h }
+
+-- the sender of a channel, as the channel's record says it
+pub record SenderIs (s cs : List ℕ) (c f : ℕ) : Type 0 where
+  pub same : f ≡ channel (runIn s) c .from
+  pub there : f < headOf s .processes
+  pub row : RowOf s cs f
+  pub all : getD cs f 0 ≡ count (runIn s) (channel (runIn s) c .from)
+
+pub sender-of : {s cs ps : List ℕ} {c : ℕ} {e : Channel} → Listed s cs ps → c < headOf s .channels → e ≡ channelAt s c → SenderIs s cs c (e .from)
+sender-of {s} {c = c} {e = e} w h z =
+    let there : e .from < headOf s .processes = rw (ap (λ x. x .from) z) (ok s (w .read) .channels c h .from) in
+    let same = ap (λ x. x .from) (z ∙ sym (channel-is s (w .read) c h)) in
+    let row = row-of w refl there in
+    record { same = same; there = there; row = row; all = row .counted ∙ ap (count (runIn s)) same }
 
 pub small-run : {s cs ps : List ℕ} → Listed s cs ps → Small (runIn s)
 small-run {s} {cs} {ps} w i k t =

@@ -1,5 +1,6 @@
 // The first record in file order among the first faulty states of the processes.
 use crate::First;
+use run::slots::place_of;
 ghost use mathlib.Core.Path.{_≡_};
 ghost use Prim.Native.Nat.{ℕ, _+_, _≤_, _<_};
 ghost use mathlib.Core.Logic.{_≢_};
@@ -29,12 +30,11 @@ fn with_process(run: &[u8], places: &[u16], bad: &[u16], p: u16, so_far: First) 
     ensures { λ r. ⌜ Earliest (now (run .entry)) (p + 1) (now (bad .entry)) r ⌝ }
 {
     let row = p as usize;
-    let k = bad[row] as usize;
+    let k = bad[row];
     if k == 0 {
         return so_far;
     }
-    let slot = 512 * row + (k - 1);
-    lower(so_far, places[slot] as usize)
+    lower(so_far, place_of(places, p, k))
 }
 
 // Of the processes 0 to n - 1, each with its first faulty state or 0.

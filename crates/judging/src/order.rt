@@ -2,8 +2,10 @@
 use crate::Ahead;
 use model::Event;
 use record::bytes::u16_at;
+use run::slots::event_at;
+use run::slots::place_of;
+use run::slots::slot_of;
 use run::states::channel_at;
-use run::states::state_at;
 ghost use mathlib.Core.Path.{_≡_};
 ghost use mathlib.Core.Logic.{_≢_};
 ghost use Prim.Native.Nat.{_≤_, _<_, max};
@@ -20,9 +22,7 @@ fn ahead_of(run: &[u8], places: &[u16], partners: &[u16], p: u16, k: u16) -> Ahe
     requires { ⌜ Placed (now run) (now places) × Known (runIn (now run)) × Partnered (runIn (now run)) (now partners) × (length (now partners) ≡ 4096) × IsState (runIn (now run)) p k ⌝ }
     ensures { λ r. ⌜ AheadIs (runIn (now (run .entry))) p k (r .process) (r .state) ⌝ }
 {
-    let slot = 512 * (p as usize) + (k as usize - 1);
-    let state = state_at(run, places[slot] as usize);
-    let event = state.event;
+    let event = event_at(run, places, p, k);
     match event {
         Event::Start => Ahead {
             process: 0,
@@ -38,6 +38,7 @@ fn ahead_of(run: &[u8], places: &[u16], partners: &[u16], p: u16, k: u16) -> Ahe
         },
         Event::Receive(m) => {
             let process = channel_at(run, m.channel).from;
+            let slot = slot_of(p as usize, k);
             Ahead {
                 process,
                 state: partners[slot] - 1,
@@ -60,7 +61,7 @@ fn number_at(clocks: &[u16], p: u16, k: u16, i: u16) -> u16
     if k == 0 {
         return 0;
     }
-    let entry = 8 * (512 * (p as usize) + (k as usize - 1)) + i as usize;
+    let entry = 8 * slot_of(p as usize, k) + i as usize;
     clocks[entry]
 }
 
@@ -82,7 +83,7 @@ fn clock_row(clocks: &mut [u16], n: u16, p: u16, k: u16, ahead: Ahead)
     requires { ⌜ (length (now clocks) ≡ 32768) × (n ≤ 8) × (p < 8) × (1 ≤ k) × (k ≤ 512) × (ahead .process < 8) × (ahead .state ≤ 512) × (ahead .state ≢ 0 → ahead .process ≢ p) ⌝ }
     ensures { λ _. ⌜ Written n p k (ahead .process) (ahead .state) (now (clocks .entry)) (now (clocks .exit)) ⌝ }
 {
-    let row = 8 * (512 * (p as usize) + (k as usize - 1));
+    let row = 8 * slot_of(p as usize, k);
     let mut i: u16 = 0;
     while i < n {
         let number = number_of(clocks, p, k, ahead, i);
@@ -169,9 +170,8 @@ fn differs(run: &[u8], places: &[u16], clocks: &[u16], n: u16, p: u16, k: u16) -
     requires { ⌜ Placed (now run) (now places) × Clocks (runIn (now run)) (clockIn (now clocks)) × (length (now clocks) ≡ 32768) × (n ≡ headOf (now run) .processes) × IsState (runIn (now run)) p k ⌝ }
     ensures { λ r. ⌜ Compared (now (run .entry)) p k r ⌝ }
 {
-    let slot = 512 * (p as usize) + (k as usize - 1);
-    let row = 8 * slot;
-    let at = places[slot] as usize + 34;
+    let row = 8 * slot_of(p as usize, k);
+    let at = place_of(places, p, k) + 34;
     let mut i: u16 = 0;
     while i < n {
         let x = i as usize;

@@ -4,8 +4,9 @@ use crate::First;
 use crate::faults::earliest;
 use model::Event;
 use model::Message;
+use run::slots::event_at;
+use run::slots::slot_of;
 use run::states::channel_at;
-use run::states::state_at;
 ghost use mathlib.Core.Path.{_≡_};
 ghost use mathlib.Core.Bool.{true, false};
 ghost use Prim.Native.Nat.{_+_, _*_, _≤_, _<_};
@@ -42,12 +43,9 @@ fn find(
     requires { ⌜ Placed (now run) (now places) × (p < headOf (now run) .processes) × (1 ≤ low) × (high ≤ count (runIn (now run)) p) ⌝ }
     ensures { λ r. ⌜ Found (runIn (now (run .entry))) p low high sends message r ⌝ }
 {
-    let row = 512 * (p as usize);
     let mut k = low;
     while k <= high {
-        let slot = row + (k as usize - 1);
-        let state = state_at(run, places[slot] as usize);
-        let event = state.event;
+        let event = event_at(run, places, p, k);
         if carries_it(event, sends, message) {
             return k;
         }
@@ -139,8 +137,8 @@ fn enter(
         return true;
     }
     let from = channel_at(run, message.channel).from as usize;
-    let other = 512 * from + (l as usize - 1);
-    let own = 512 * (p as usize) + (k as usize - 1);
+    let other = slot_of(from, l);
+    let own = slot_of(p as usize, k);
     partners[other] = k;
     partners[own] = l;
     false
@@ -160,9 +158,7 @@ fn settle(
     requires { ⌜ Listed (now run) (now counts) (now places) × (length (now partners) ≡ 4096) × (length (now marks) ≡ 32) × (length (now hints) ≡ 16) × IsState (runIn (now run)) p k × Rising (runIn (now run)) true p k (now marks) × Rising (runIn (now run)) false p k (now marks) ⌝ }
     ensures { λ r. ⌜ Settled (runIn (now (run .entry))) p k (now (partners .entry)) (now (partners .exit)) (now (marks .entry)) (now (marks .exit)) r ⌝ }
 {
-    let slot = 512 * (p as usize) + (k as usize - 1);
-    let state = state_at(run, places[slot] as usize);
-    let event = state.event;
+    let event = event_at(run, places, p, k);
     match event {
         Event::Start => false,
         Event::Internal => false,

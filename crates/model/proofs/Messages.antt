@@ -1,5 +1,6 @@
 -- What a state sends or receives on a channel, and up to where a message is received.
 use mathlib.Core.Path.{_≡_, refl, sym, ap, _∙_}
+use mathlib.Core.Logic.{_≢_}
 use mathlib.Core.Bool.{Bool, true, false, cond}
 use mathlib.Core.Option.{Option, some, none}
 use Prim.Native.Nat.{ℕ, _≤_}
@@ -24,6 +25,10 @@ receiving-receive Start m h = cc
 receiving-receive Internal m h = cc
 receiving-receive (Send n) m h = cc
 receiving-receive (Receive n) m h = cc
+
+-- an event that receives nothing isn't a receive
+pub no-receive : {v : Event} (e : Event) → v ≡ e → receiving e ≡ none → (m : Message) → v ≢ Receive m
+no-receive e g n m h = let y = ap receiving (sym g ∙ h) in let z : _≡_ {A = ℕ} 0 1 = cc in omega arith
 
 on-some : (c : ℕ) (o : Option Message) (m : Message) → onChannel c o ≡ some m → (o ≡ some m) × (m .channel ≡ c)
 on-some c none m h = let z : _≡_ {A = ℕ} 0 1 = cc in absurd (omega arith)

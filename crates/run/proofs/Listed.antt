@@ -12,7 +12,7 @@ use Rattle.record.specs.Record.{headOf, fieldsAt}
 use Rattle.run.specs.States.{eventOf, stateAt, channelAt, placesOf}
 use Rattle.run.specs.Read.{readOf}
 use Rattle.run.specs.Read.Verdict.{accepted}
-use Rattle.run.specs.Tables.{statesOf, runIn, placeOf, slot, Placed, Listed}
+use Rattle.run.specs.Tables.{statesOf, runIn, placeOf, slot, HasSlot, Placed, Listed}
 use Rattle.run.proofs.Laws.{StateOk}
 use Rattle.run.proofs.Index.{counts-at, counts-length}
 use Rattle.run.proofs.Places.{StandsAt, stands, places-grow}
@@ -44,6 +44,16 @@ module _ (s : List ℕ) (read : readOf s ≡ accepted (statesOf s)) where
   pub channel-is : (c : ℕ) → c < headOf s .channels → channel (runIn s) c ≡ channelAt s c
   unfolding runIn
   channel-is c h = run-channel s qs c h
+
+  -- a channel of the run has its record, which says its ends
+  pub channel-record : (c : ℕ) → c < length (runIn s .channels) → 20 + 10 * c ≤ length s
+  channel-record c h = omega (arith, channels-are, ok .whole)
+
+  pub channel-few : (c : ℕ) → c < length (runIn s .channels) → c < 16
+  channel-few c h = omega (arith, channels-are, ok .head .channels)
+
+  pub channel-same : (c : ℕ) → c < length (runIn s .channels) → channelAt s c ≡ channel (runIn s) c
+  channel-same c h = sym (channel-is c (omega (arith, channels-are)))
 
   pub process-of : {p k : ℕ} → IsState (runIn s) p k → p < headOf s .processes
   unfolding runIn
@@ -103,6 +113,12 @@ module _ (s ps : List ℕ) (w : Placed s ps) where
 
   pub placed-few : (p : ℕ) → p < headOf s .processes → count (runIn s) p ≤ 512
   placed-few p h = omega (arith, w .few p (placed-eight p h), count-is s (w .read) p h)
+
+  -- a state has an entry
+  pub placed-slot : {p k : ℕ} → IsState (runIn s) p k → HasSlot p k
+  placed-slot t =
+      let h = process-of s (w .read) t in
+      record { process = placed-eight _ h; counted = t .counted; few = omega (arith, t .there, placed-few _ h) }
 
   pub placed-at : (p k : ℕ) → IsState (runIn s) p k → getD ps (slot p k) 0 ≡ placeOf s p k
   placed-at p k t =

@@ -2,7 +2,7 @@
 use mathlib.Core.Path.{_≡_}
 use mathlib.Core.Logic.{_⊎_}
 use mathlib.Core.List.{List, []}
-use Prim.Native.Nat.{ℕ, _+_, _-_, _*_, _<_}
+use Prim.Native.Nat.{ℕ, _+_, _-_, _*_, _≤_, _<_}
 use lib.ListN.{length, getD}
 use Rattle.model.specs.declared.Message.{Message}
 use Rattle.model.specs.declared.Event.the-variants.{Send}
@@ -31,6 +31,12 @@ placeOf s p k = getD (placesOf s (statesOf s) p) (k - 1) 0
 -- state k of process i has entry 512 i + k - 1 of a table
 abbrev pub slot : ℕ → ℕ → ℕ
 slot i k = 512 * i + (k - 1)
+
+-- a process and a number that have an entry
+pub record HasSlot (i k : ℕ) : Type 0 where
+  pub process : i < 8
+  pub counted : 1 ≤ k
+  pub few : k ≤ 512
 
 -- the other end of a send or of a receive; 0 of a send that isn't received
 pub record Partnered (r : Run) (partners : List ℕ) : Type 0 where

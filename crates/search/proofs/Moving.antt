@@ -16,7 +16,7 @@ use Rattle.model.specs.Clause.{Clause, holds, Linear, Satisfies, First}
 use Rattle.model.proofs.Search.{Under, Moves, move-on, run-out, arrive, clock-moves, ones-cut, ones-under, all-tested}
 use Rattle.record.specs.Record.{headOf}
 use Rattle.run.specs.Tables.{runIn, clockIn, Tables, Listed}
-use Rattle.run.proofs.Listed.{ok, processes-are, count-is, listed-count}
+use Rattle.run.proofs.Listed.{ok, processes-are, listed-count, listed-eight}
 use Rattle.condition.specs.Clauses.{clauseAt, clausesOf}
 use Rattle.condition.specs.Read.{placesIn, readOf, clausesIn}
 use Rattle.condition.specs.Known.{ClauseKnown, Known}
@@ -43,6 +43,21 @@ map-each : {A B : Type 0} (f : A → B) (P : B → Type 0) (l : List A) (d : A) 
 map-each f P [] d w k m = absurd (List·Memᴰ·not-nil m)
 map-each f P (x ∷ l) d w k (List·Memᴰ·head e) = subst P (sym e) (w 0 (omega arith))
 map-each f P (x ∷ l) d w k (List·Memᴰ·tail m) = map-each f P l d (λ j h. w (suc j) (omega arith)) k m
+
+-- ---- the measure: what the chosen numbers add up to
+
+abbrev pub total : List ℕ → ℕ
+total [] = 0
+total (x ∷ l) = x + total l
+
+pub total-set : (l : List ℕ) (i : ℕ) → i < length l → total (set l i (getD l i 0 + 1)) ≡ total l + 1
+total-set [] i h = absurd (omega arith)
+total-set (x ∷ l) zero h = omega arith
+total-set (x ∷ l) (suc i) h = omega (arith, total-set l i (omega arith))
+
+pub total-few : (l : List ℕ) → ((i : ℕ) → i < length l → getD l i 0 ≤ 512) → total l ≤ 512 * length l
+total-few [] w = omega arith
+total-few (x ∷ l) w = omega (arith, w 0 (omega arith), total-few l (λ i h. w (suc i) (omega arith)))
 
 -- ---- what the test of one clause tells
 
@@ -118,9 +133,27 @@ module _ {s c cs ps ns ks qs : List ℕ} {k : ℕ} (g : Given s c cs ps ns ks qs
     search-found e (nobody w v) = found (arrive r (clausesFor s c) cut low (all-tested r (clockIn ks) (clausesFor s c) cut (g .tables .clocks) is v w))
     search-found e (process p h m) = absurd (let z : _≡_ {A = ℕ} 0 1 = cc in omega arith)
 
-    pub moved-process : {b : Behind} {p : ℕ} → b ≡ Process p → Moved s c ks cut b → (p < processes r) × MustMove r (clausesFor s c) cut p
+    -- who is named, and where the tables and the cut have it
+    pub record Named (p : ℕ) : Type 0 where
+      pub there : p < processes r
+      pub must : MustMove r (clausesFor s c) cut p
+      pub row : p < 8
+      pub inside : p < length cut
+      pub small : at cut p ≤ 512
+      pub listed-in : p < length cs
+      pub counted : getD cs p 0 ≡ count r p
+
+    named : {p : ℕ} → p < processes r → MustMove r (clausesFor s c) cut p → Named p
+    named {p} h m =
+        let read = g .tables .read in
+        let l : p < headOf s .processes = omega (arith, processes-are s read) in
+        let few = ok s read .head .few in
+        let inside : p < length cut = omega (arith, is .size) in
+        record { there = h; must = m; row = omega arith; inside = inside; small = in-table cut is low .there p inside; listed-in = omega (arith, listed-eight listed); counted = listed-count s cs ps listed p l }
+
+    pub moved-process : {b : Behind} {p : ℕ} → b ≡ Process p → Moved s c ks cut b → Named p
     moved-process e (nobody w v) = absurd (let z : _≡_ {A = ℕ} 0 1 = cc in omega arith)
-    moved-process {p = p} e (process q h m) = let same : q ≡ p = cc in subst (λ p. (p < processes r) × MustMove r (clausesFor s c) cut p) same (h, m)
+    moved-process {p = p} e (process q h m) = let same : q ≡ p = cc in subst Named same (named h m)
 
     module _ (p : ℕ) (h : p < processes r) (m : MustMove r (clausesFor s c) cut p) where
       -- a history that runs out
@@ -143,17 +176,9 @@ module _ {s c cs ps ns ks qs : List ℕ} {k : ℕ} (g : Given s c cs ps ns ks qs
         move-on r (clausesFor s c) cut p (omega (arith, is .size)) low m,
       )
 
--- ---- the measure: what the chosen numbers add up to
-
-abbrev pub total : List ℕ → ℕ
-total [] = 0
-total (x ∷ l) = x + total l
-
-pub total-set : (l : List ℕ) (i : ℕ) → i < length l → total (set l i (getD l i 0 + 1)) ≡ total l + 1
-total-set [] i h = absurd (omega arith)
-total-set (x ∷ l) zero h = omega arith
-total-set (x ∷ l) (suc i) h = omega (arith, total-set l i (omega arith))
-
-pub total-few : (l : List ℕ) → ((i : ℕ) → i < length l → getD l i 0 ≤ 512) → total l ≤ 512 * length l
-total-few [] w = omega arith
-total-few (x ∷ l) w = omega (arith, w 0 (omega arith), total-few l (λ i h. w (suc i) (omega arith)))
+      -- a bound on the moves
+      pub search-less : at cut p < count r p → 4096 - total (set cut p (at cut p + 1)) < 4096 - total cut
+      search-less l =
+          let (is′, low′) = search-move l in
+          let few = in-table (set cut p (at cut p + 1)) is′ low′ in
+          omega (arith, total-set cut p (omega (arith, is .size)), total-few (set cut p (at cut p + 1)) (few .there), few .few)

@@ -8,6 +8,8 @@ use native.Mathlib.Omega.{arith}
 use lib.Dec.{T, eqb, ltb}
 use lib.IntN.{ℤ, pos}
 use lib.ListN.{length, getD}
+use Rattle.model.specs.declared.Channel.{Channel}
+use Rattle.model.specs.declared.Message.{Message}
 use Rattle.model.specs.declared.Mover.{Mover}
 use Rattle.model.specs.declared.Mover.the-variants.{Sender, Receiver, NotLinear}
 use Rattle.model.specs.Run.{Run, processes, count, state, channel, IsState}
@@ -18,12 +20,17 @@ use Rattle.model.specs.Clause.Test.{countAtMost, countAtLeast, countIs, stampIs
 use Rattle.model.proofs.Search.{Under, Moves, local-moves, sender-moves, receiver-moves}
 use Rattle.record.specs.Bytes.{signed}
 use Rattle.record.specs.Record.{headOf}
-use Rattle.run.specs.Tables.{runIn, Tables}
-use Rattle.run.proofs.Listed.{ok, sides, processes-are, channels-are, channel-is}
 use Rattle.run.specs.States.{channelAt}
+use Rattle.run.specs.Read.{readOf}
+use Rattle.run.specs.Read.Verdict.{accepted}
+use Rattle.run.specs.Tables.{statesOf, runIn}
+use Rattle.run.proofs.Listed.{sides, channels-are, channel-same}
 use Rattle.condition.specs.Clauses.{testOf}
 use Rattle.cut.specs.declared.Behind.{Behind}
 use Rattle.cut.specs.declared.Behind.the-variants.{Nobody, Process}
+use Rattle.cut.specs.declared.Tally.{Tally}
+use Rattle.cut.specs.Tally.{tallyOf, asked}
+use Rattle.cut.proofs.Passed.{tally-count}
 use Rattle.search.specs.Search.{Tested, Lowest, MustMove}
 use Rattle.search.specs.Search.Tested.{true as holding, localFalse, sender, receiver}
 
@@ -44,19 +51,39 @@ module _ (r : Run) (cut : List ℕ) where
   unfolding holds
   local-false i v o x h z e = localFalse i v o x refl h (not-T-of (subst (λ y. compares o (getD (state r i (at cut i) .values) v (pos 0)) y ≡ false) z e))
 
-  pub channel-true : (c : ℕ) (t : Test) → passes t (between r c (at cut (channel r c .from)) (at cut (channel r c .to))) ≡ true → Tested r cut (on c t) Nobody
-  unfolding holds inTransit
-  channel-true c t e = holding (T-of e)
+-- the ends of a known channel, as its record says them
+pub record Ends (r : Run) (c : ℕ) (e : Channel) : Type 0 where
+  pub same : e ≡ channel r c
+  pub from : e .from < processes r
+  pub to : e .to < processes r
 
-  module _ (c : ℕ) (t : Test) (n : ℕ) (e : passes t (between r c (at cut (channel r c .from)) (at cut (channel r c .to))) ≡ false)
-      (l : n ≡ length (between r c (at cut (channel r c .from)) (at cut (channel r c .to)))) where
-    pub channel-sender : channel r c .from < processes r → mover t n ≡ Sender → Tested r cut (on c t) (Process (channel r c .from))
-    unfolding holds inTransit
-    channel-sender h m = sender c t refl h (not-T-of e) (ap (mover t) (sym l) ∙ m)
+pub ends-of : (s : List ℕ) → readOf s ≡ accepted (statesOf s) → (c : ℕ) → c < headOf s .channels → {e : Channel} → e ≡ channelAt s c → Ends (runIn s) c e
+ends-of s read c h z =
+    let n : c < length (runIn s .channels) = omega (arith, channels-are s read) in
+    let same = z ∙ channel-same s read c n in
+    let within = sides s read .ends c n in
+    record { same = same; from = rw same (within .0); to = rw same (within .1) }
 
-    pub channel-receiver : channel r c .to < processes r → mover t n ≡ Receiver → Tested r cut (on c t) (Process (channel r c .to))
-    unfolding holds inTransit
-    channel-receiver h m = receiver c t refl h (not-T-of e) (ap (mover t) (sym l) ∙ m)
+-- a channel clause, by the tally of what is in transit between these ends
+module _ (r : Run) (cut : List ℕ) (c n x : ℕ) {e : Channel} {y : Tally} {b : Bool} (k : Ends r c e)
+    (w : y ≡ tallyOf (asked n x) (between r c (at cut (e .from)) (at cut (e .to))))
+    (says : (ms : List Message) → y ≡ tallyOf (asked n x) ms → b ≡ passes (testOf n x) ms) where
+  tallied : y ≡ tallyOf (asked n x) (inTransit r cut c)
+  unfolding inTransit
+  tallied = w ∙ ap (λ e. tallyOf (asked n x) (between r c (at cut (e .from)) (at cut (e .to)))) (k .same)
+
+  pub channel-true : b ≡ true → Tested r cut (on c (testOf n x)) Nobody
+  unfolding holds
+  channel-true h = holding (T-of (sym (says _ tallied) ∙ h))
+
+  module _ (h : b ≡ false) where
+    pub channel-sender : mover (testOf n x) (y .count) ≡ Sender → Tested r cut (on c (testOf n x)) (Process (e .from))
+    unfolding holds
+    channel-sender m = rw (k .same) (sender c (testOf n x) refl (rw (k .same) at (k .from)) (not-T-of (sym (says _ tallied) ∙ h)) (ap (mover (testOf n x)) (sym (tally-count _ _ tallied)) ∙ m))
+
+    pub channel-receiver : mover (testOf n x) (y .count) ≡ Receiver → Tested r cut (on c (testOf n x)) (Process (e .to))
+    unfolding holds
+    channel-receiver m = rw (k .same) (receiver c (testOf n x) refl (rw (k .same) at (k .to)) (not-T-of (sym (says _ tallied) ∙ h)) (ap (mover (testOf n x)) (sym (tally-count _ _ tallied)) ∙ m))
 
 -- tests 1 to 7 say who has to move
 pub test-says : (n x count : ℕ) → 1 ≤ n → n ≤ 7 → mover (testOf n x) count ≡ NotLinear → ⊥

@@ -1,6 +1,7 @@
+use borrow.Author.Needs.{needs}
 use native.Mathlib.Omega.{arith}
 use mathlib.Core.Path.{_≡_, sym, _∙_}
-use Prim.Native.Nat.{_-_, _≤_, _<_}
+use Prim.Native.Nat.{_-_, _≤_}
 use lib.ListN.{length, length-set}
 use Rattle.judging.specs.Judged.{WrongClock}
 use Rattle.judging.specs.Order.{FirstsTo}
@@ -10,7 +11,7 @@ use Rattle.judging.proofs.order.clock_faults.Statement.{statement}
 use Rattle.judging.proofs.order.clock_faults.Tie as tie
 
 abbrev Inv-loop : tie.InvT-loop
-Inv-loop run counts places clocks bad₀ n p₀ bad p = (p ≤ n) × (length bad ≡ 8) × FirstsTo run (WrongClock run) p bad
+Inv-loop run counts places clocks bad₀ n p₀ bad p = (n ≤ 8) × (p ≤ n) × (length bad ≡ 8) × FirstsTo run (WrongClock run) p bad
 
 abbrev μ-loop : tie.MeasureT-loop
 μ-loop run counts places clocks bad₀ n p₀ bad p = n - p
@@ -18,60 +19,25 @@ abbrev μ-loop : tie.MeasureT-loop
 loop-holds : tie.Need-loop-holds Inv-loop μ-loop
 loop-holds c =
     let r = c .before .before .before .before .before .pre in
-    (omega arith, r .3, firsts-start _ _ _)
+    (omega (arith, r .4, ok _ (r .0 .read) .head .few), omega arith, r .3, firsts-start _ _ _)
 
 clock-fault-requires : tie.Need-clock-fault-requires Inv-loop μ-loop
-clock-fault-requires c κs =
-    let r = c .before .before .before .before .before .before .before .pre in
-    let i = c .before .loop .inv in
-    (r .0, r .1, r .2, r .4, c .loop-test .taken)
-
-cast-row : tie.Need-cast-row Inv-loop μ-loop
-cast-row c =
-    let r = c .before .before .before .before .before .before .before .before .pre in
-    let i = c .before .before .loop .inv in
-    let e : c .before .before .loop .p < 8 = omega (arith, r .4, ok _ (r .0 .read) .head .few, c .before .loop-test .taken) in
-    omega arith
-
-mul-bad : tie.Need-mul-bad Inv-loop μ-loop
-mul-bad c =
-    let r = c .before .before .before .before .before .before .before .before .pre in
-    let i = c .before .before .loop .inv in
-    let e : c .before .before .loop .p < 8 = omega (arith, r .4, ok _ (r .0 .read) .head .few, c .before .loop-test .taken) in
-    omega arith
-
-slice-write-bad : tie.Need-slice-write-bad Inv-loop μ-loop
-slice-write-bad c =
-    let r = c .before .before .before .before .before .before .before .before .pre in
-    let i = c .before .before .loop .inv in
-    let e : c .before .before .loop .p < 8 = omega (arith, r .4, ok _ (r .0 .read) .head .few, c .before .loop-test .taken) in
-    omega (arith, i .1)
-
-add-p : tie.Need-add-p Inv-loop μ-loop
-add-p c =
-    let r = c .before .before .before .before .before .before .before .before .pre in
-    let i = c .before .before .loop .inv in
-    let e : c .before .before .loop .p < 8 = omega (arith, r .4, ok _ (r .0 .read) .head .few, c .before .loop-test .taken) in
-    omega arith
-
-loop-less : tie.Need-loop-less Inv-loop μ-loop
-loop-less c = omega (arith, c .before .loop-test .taken)
+clock-fault-requires c κs = let r = c .before .before .before .before .before .before .before .pre in (r .0, r .1, r .2, r .4, c .loop-test .taken)
 
 loop-again : tie.Need-loop-again Inv-loop μ-loop
 loop-again c =
-    let r = c .before .before .before .before .before .before .before .before .pre in
     let i = c .before .before .loop .inv in
-    let e : c .before .before .loop .p < 8 = omega (arith, r .4, ok _ (r .0 .read) .head .few, c .before .loop-test .taken) in
-    (omega (arith, c .before .loop-test .taken), length-set (c .before .before .loop .bad) _ _ ∙ i .1, firsts-next _ _ _ _ _ (omega (arith, i .1)) (i .2) (c .clock-fault .ensures))
+    let h = c .before .loop-test .taken in
+    (i .0, omega arith, length-set (c .before .before .loop .bad) _ _ ∙ i .2, firsts-next _ _ _ _ _ (omega (arith, i .0, i .2)) (i .3) (c .clock-fault .ensures))
 
 same-length : tie.Need-same-length Inv-loop μ-loop
-same-length c = c .before .loop .inv .1 ∙ sym (c .before .before .before .before .before .before .before .pre .3)
+same-length c = c .before .loop .inv .2 ∙ sym (c .before .before .before .before .before .before .before .pre .3)
 
 returns : tie.Need-returns Inv-loop μ-loop
-returns c = let e : c .before .loop .p ≡ c .before .before .before .before .before .before .before .args .n = omega (arith, c .before .loop .inv .0, c .loop-test .left) in rw (← e) (c .before .loop .inv .2)
+returns c = let e : c .before .loop .p ≡ c .before .before .before .before .before .before .before .args .n = omega (arith, c .before .loop .inv .1, c .loop-test .left) in rw (← e) (c .before .loop .inv .3)
 
 pub clock-faults-spec : {M : Type 1} → statement M
 clock-faults-spec =
     tie.close (tie.spec
-    Inv-loop μ-loop loop-holds clock-fault-requires cast-row mul-bad slice-write-bad add-p loop-less loop-again
-    same-length returns)
+    Inv-loop μ-loop loop-holds clock-fault-requires (λ c. search needs) (λ c. search needs) (λ c. search needs)
+    (λ c. search needs) (λ c. search needs) loop-again same-length returns)

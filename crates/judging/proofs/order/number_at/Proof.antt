@@ -10,10 +10,10 @@ returns c = simp (eq-eqb _ 0 (c .if1 .taken))
 
 returns-2 : tie.Need-returns-2
 unfolding numberAt
-returns-2 c = simp (ne-eqb _ 0 (c .before .if1 .left))
+returns-2 c = simp (ne-eqb _ 0 (c .before .before .if1 .left), c .before .slot-of .ensures .0)
 
 pub number-at-spec : {M : Type 1} → statement M
 number-at-spec =
     tie.close (tie.spec
-    returns (λ c. search needs) (λ c. search needs) (λ c. search needs) (λ c. search needs) (λ c. search needs)
-    (λ c. search needs) (λ c. search needs) returns-2)
+    returns (λ c κs. search needs) (λ c. search needs) (λ c. search needs) (λ c. search needs) (λ c. search needs)
+    returns-2)

@@ -1,5 +1,6 @@
+use borrow.Author.Needs.{needs}
 use native.Mathlib.Omega.{arith}
-use mathlib.Core.Path.{_≡_, refl, sym, ap, _∙_, subst}
+use mathlib.Core.Path.{_≡_, sym, _∙_, subst}
 use Prim.Native.Nat.{ℕ, _+_, _-_, _≤_, _<_, zero-le}
 use mathlib.Core.Logic.{⊎-elim}
 use native.Mathlib.Nat.{eq-or-lt-of-le}
@@ -21,69 +22,8 @@ abbrev μ-loop : tie.MeasureT-loop
 loop-holds : tie.Need-loop-holds Inv-loop μ-loop
 loop-holds c = (zero-le, c .before .before .before .pre .2, λ q h. absurd (omega arith))
 
-mul-next-of : tie.Need-mul-next-of Inv-loop μ-loop
-mul-next-of c =
-    let r = c .before .before .before .before .before .pre in
-    let a = c .before .before .before .before .before .args in
-    let l = c .before .loop in
-    let i = l .inv in
-    omega (arith, r .3)
-
-shared-slice-read-next-of : tie.Need-shared-slice-read-next-of Inv-loop μ-loop
-shared-slice-read-next-of c =
-    let r = c .before .before .before .before .before .before .pre in
-    let a = c .before .before .before .before .before .before .args in
-    let l = c .before .before .loop in
-    let i = l .inv in
-    omega (arith, r .1, r .3)
-
-mul-next-of-2 : tie.Need-mul-next-of-2 Inv-loop μ-loop
-mul-next-of-2 c =
-    let r = c .before .before .before .before .before .before .pre in
-    let a = c .before .before .before .before .before .before .args in
-    let l = c .before .before .loop in
-    let i = l .inv in
-    omega (arith, r .3)
-
-shared-slice-read-next-of-2 : tie.Need-shared-slice-read-next-of-2 Inv-loop μ-loop
-shared-slice-read-next-of-2 c =
-    let r = c .before .before .before .before .before .before .before .pre in
-    let a = c .before .before .before .before .before .before .before .args in
-    let l = c .before .before .before .loop in
-    let i = l .inv in
-    omega (arith, r .0, r .3)
-
 next-of-requires : tie.Need-next-of-requires Inv-loop μ-loop
-next-of-requires c κs =
-    let r = c .before .before .before .before .before .before .before .pre in
-    let a = c .before .before .before .before .before .before .before .args in
-    let l = c .before .before .before .loop in
-    let i = l .inv in
-    r .4 _ (c .before .before .loop-test .taken)
-
-mul-bad : tie.Need-mul-bad Inv-loop μ-loop
-mul-bad c =
-    let r = c .before .before .before .before .before .before .before .before .pre in
-    let a = c .before .before .before .before .before .before .before .before .args in
-    let l = c .before .before .before .before .loop in
-    let i = l .inv in
-    omega (arith, r .3)
-
-slice-write-bad : tie.Need-slice-write-bad Inv-loop μ-loop
-slice-write-bad c =
-    let r = c .before .before .before .before .before .before .before .before .pre in
-    let a = c .before .before .before .before .before .before .before .before .args in
-    let l = c .before .before .before .before .loop in
-    let i = l .inv in
-    omega (arith, r .3, i .1)
-
-add-p : tie.Need-add-p Inv-loop μ-loop
-add-p c =
-    let r = c .before .before .before .before .before .before .before .before .pre in
-    let a = c .before .before .before .before .before .before .before .before .args in
-    let l = c .before .before .before .before .loop in
-    let i = l .inv in
-    omega (arith, r .3)
+next-of-requires c κs = c .before .before .before .before .before .before .before .pre .4 _ (c .before .before .loop-test .taken)
 
 loop-again : tie.Need-loop-again Inv-loop μ-loop
 loop-again c =
@@ -102,5 +42,6 @@ returns c = record { next = λ q h. c .before .loop .inv .2 q (omega (arith, h, 
 pub undone-spec : {M : Type 1} → statement M
 undone-spec =
     tie.close (tie.spec
-    Inv-loop μ-loop loop-holds mul-next-of shared-slice-read-next-of mul-next-of-2 shared-slice-read-next-of-2
-    next-of-requires mul-bad slice-write-bad add-p (λ c. omega arith) loop-again same-length returns)
+    Inv-loop μ-loop loop-holds (λ c. search needs) (λ c. search needs) (λ c. search needs) (λ c. search needs)
+    next-of-requires (λ c. search needs) (λ c. search needs) (λ c. search needs) (λ c. omega arith) loop-again
+    same-length returns)
