@@ -6,7 +6,7 @@ use mathlib.Core.List.{List}
 use mathlib.Core.Option.{Option, some, none}
 use Prim.Native.Nat.{ℕ, zero, suc, _≤_, _<_, zero-le}
 use native.Mathlib.Omega.{arith}
-use borrow.Author.Tests.{eqb-true, eqb-false, ltb-true, ltb-false}
+use borrow.Author.Tests.{not-true, not-false, eqb-true, eqb-false, ltb-true, ltb-false}
 use lib.Dec.{eqb, ltb}
 use lib.ListN.{length}
 use Rattle.model.specs.declared.Message.{Message}
@@ -66,14 +66,6 @@ module _ (s cs ps : List ℕ) (w : Listed s cs ps) where
       there = λ j h. omega (arith, is .states j (omega (arith, is .size)) .there, placed-few s ps (listed-places w) j (omega (arith, is .size, processes-are s (w .read))));
     }
 
-  denied : (t : Bool) → not t ≡ true → t ≡ false
-  denied true e = absurd (let z : _≡_ {A = ℕ} 0 1 = cc in omega arith)
-  denied false e = refl
-
-  granted : (t : Bool) → not t ≡ false → t ≡ true
-  granted true e = refl
-  granted false e = absurd (let z : _≡_ {A = ℕ} 0 1 = cc in omega arith)
-
   -- by the test, with the head that the judging hands up
   module _ (head : Head) (same : head ≡ headOf s) where
     pub few-said : head .processes ≤ 8
@@ -81,12 +73,12 @@ module _ (s cs ps : List ℕ) (w : Listed s cs ps) where
 
     module _ (cut : List ℕ) {t : Bool} (told : (t ≡ true) ↔ Chosen cs cut (head .processes)) where
       pub told-cut : not t ≡ false → IsCut (runIn s) cut
-      told-cut e = chosen-cut cut (subst (λ h. Chosen cs cut (h .processes)) same (told .0 (granted t e)))
+      told-cut e = chosen-cut cut (subst (λ h. Chosen cs cut (h .processes)) same (told .0 (not-false t e)))
 
       pub told-no-cut : not t ≡ true → ¬ IsCut (runIn s) cut
       told-no-cut e is =
           let d = told .1 (subst (λ h. Chosen cs cut (h .processes)) (sym same) (cut-chosen cut is)) in
-          let f = denied t e in
+          let f = not-true t e in
           let z : _≡_ {A = ℕ} 0 1 = cc in omega arith
 
 -- ---- what is in transit

@@ -13,7 +13,7 @@ use record::reasons::CUT;
 use record::reasons::refusal_of;
 use run::Reading;
 use run::states::channel_at;
-use search::movers::clause_mover;
+use search::movers::first_false;
 ghost use mathlib.Core.Path.{_≡_};
 ghost use mathlib.Core.Logic.{_↔_};
 ghost use mathlib.Core.Bool.{true};
@@ -149,7 +149,7 @@ pub fn messages_on(run: &[u8], cut: &[u16], channel: u16) -> Count
     }
 }
 
-// Every clause holds at the cut, and the cut is consistent.
+// Every clause holds at the cut, and the cut is consistent; what costs least is asked first.
 fn satisfied(
     run: &[u8],
     counts: &[u16],
@@ -164,15 +164,40 @@ fn satisfied(
     requires { ⌜ Given (now run) (now cond) (now counts) (now places) (now partners) (now clocks) (now clauses) k × IsCut (runIn (now run)) (now cut) ⌝ }
     ensures { λ r. ⌜ (r ≡ true) ↔ Satisfies (runIn (now (run .entry))) (clausesFor (now (run .entry)) (now (cond .entry))) (now (cut .entry)) ⌝ }
 {
-    let mut i: usize = 0;
-    while i < k as usize {
-        let named = clause_mover(run, places, partners, cond, clauses[i] as usize, cut);
-        let Behind::Nobody = named else {
-            return false;
-        };
-        i += 1;
+    let local = first_false(
+        run,
+        counts,
+        places,
+        partners,
+        clocks,
+        cond,
+        clauses,
+        k,
+        cut,
+        true,
+    );
+    let Behind::Nobody = local else {
+        return false;
+    };
+    if !consistent(clocks, cut) {
+        return false;
     }
-    consistent(clocks, cut)
+    let channel = first_false(
+        run,
+        counts,
+        places,
+        partners,
+        clocks,
+        cond,
+        clauses,
+        k,
+        cut,
+        false,
+    );
+    let Behind::Nobody = channel else {
+        return false;
+    };
+    true
 }
 
 // Of an accepted run and an accepted condition: 16, or the answer.

@@ -1,6 +1,7 @@
 -- Who is named has to move; and the cut of the elimination is at or below every satisfying cut.
 use mathlib.Core.Path.{_≡_, refl, sym, ap, _∙_, subst}
 use mathlib.Core.Logic.{⊎-elim}
+use mathlib.Core.Bool.{Bool, true, false, not}
 use mathlib.Core.List.{List, [], _∷_, map, List·Memᴰ, List·Memᴰ·head, List·Memᴰ·tail, List·Memᴰ·not-nil}
 use Prim.Native.Nat.{ℕ, zero, suc, _+_, _-_, _*_, _≤_, _<_}
 use native.Mathlib.Nat.{eq-or-lt-of-le}
@@ -27,7 +28,9 @@ use Rattle.cut.specs.Lent.{Lent}
 use Rattle.cut.specs.Clocks.{tooLow, InTable}
 use Rattle.cut.proofs.Low.{Low, too-low-found, nobody-by-clock, cut-in-table}
 use Rattle.search.specs.declared.Answer.the-variants as A
-use Rattle.search.specs.Search.{Given, clausesFor, Tested, Lowest, MustMove, Moved, Searched}
+use Rattle.search.specs.Search.{Given, clausesFor, Tested, isLocal, Tried, KindTested, Lowest, MustMove, Moved, Searched}
+use Rattle.search.specs.Search.Tried.{tested, passed}
+use Rattle.search.specs.Search.KindTested.{all, one}
 use Rattle.search.specs.Search.Moved.{nobody, process}
 use Rattle.search.specs.Search.Searched.{found, nowhere}
 use Rattle.search.proofs.Tests.{tested-moves}
@@ -61,17 +64,29 @@ total-few (x ∷ l) w = omega (arith, w 0 (omega arith), total-few l (λ i h. w 
 
 -- ---- what the test of one clause tells
 
-pub tested-holds : {r : Run} {cut : List ℕ} {x : Clause} {b : Behind} → b ≡ Nobody → Tested r cut x b → T (holds r cut x)
-tested-holds e (Tested.true t) = t
+tested-holds : {r : Run} {cut : List ℕ} {x : Clause} {b : Behind} → b ≡ Nobody → Tested r cut x b → T (holds r cut x)
+tested-holds e (Tested.holding t) = t
 tested-holds e (Tested.localFalse i v o x a h n) = absurd (let z : _≡_ {A = ℕ} 0 1 = cc in omega arith)
 tested-holds e (Tested.sender i t a h n w) = absurd (let z : _≡_ {A = ℕ} 0 1 = cc in omega arith)
 tested-holds e (Tested.receiver i t a h n w) = absurd (let z : _≡_ {A = ℕ} 0 1 = cc in omega arith)
 
-pub tested-fails : {r : Run} {cut : List ℕ} {x : Clause} {b : Behind} {p : ℕ} → b ≡ Process p → Tested r cut x b → ¬ T (holds r cut x)
-tested-fails e (Tested.true t) = absurd (let z : _≡_ {A = ℕ} 0 1 = cc in omega arith)
+tested-fails : {r : Run} {cut : List ℕ} {x : Clause} {b : Behind} {p : ℕ} → b ≡ Process p → Tested r cut x b → ¬ T (holds r cut x)
+tested-fails e (Tested.holding t) = absurd (let z : _≡_ {A = ℕ} 0 1 = cc in omega arith)
 tested-fails e (Tested.localFalse i v o x a h n) = n
 tested-fails e (Tested.sender i t a h n w) = n
 tested-fails e (Tested.receiver i t a h n w) = n
+
+other-kind : (t : Bool) → t ≡ not t → ⊥
+other-kind true e = let z : _≡_ {A = ℕ} 0 1 = cc in omega arith
+other-kind false e = let z : _≡_ {A = ℕ} 0 1 = cc in omega arith
+
+pub tried-holds : {r : Run} {cut : List ℕ} {x : Clause} {locals : Bool} {b : Behind} → b ≡ Nobody → Tried r cut x locals b → isLocal x ≡ locals → T (holds r cut x)
+tried-holds e (tested d t) h = tested-holds e t
+tried-holds {locals = locals} e (passed d o) h = absurd (other-kind locals (sym h ∙ d))
+
+tried-tested : {r : Run} {cut : List ℕ} {x : Clause} {locals : Bool} {b : Behind} {p : ℕ} → b ≡ Process p → Tried r cut x locals b → Tested r cut x b
+tried-tested e (tested d t) = t
+tried-tested e (passed d o) = absurd (let z : _≡_ {A = ℕ} 0 1 = cc in omega arith)
 
 module _ {s c cs ps ns ks qs : List ℕ} {k : ℕ} (g : Given s c cs ps ns ks qs k) where
   abbrev r : Run
@@ -93,30 +108,55 @@ module _ {s c cs ps ns ks qs : List ℕ} {k : ℕ} (g : Given s c cs ps ns ks qs
   pub few-clauses : k ≤ 32
   few-clauses = omega (arith, g .counted, condition-known c (headOf s) (placesIn (readOf c (headOf s))) (g .read) .few)
 
-  pub clause-in : (j : ℕ) → j < k → List·Memᴰ (clauseAt c (getD qs j 0)) (clausesFor s c)
+  clause-in : (j : ℕ) → j < k → List·Memᴰ (clauseAt c (getD qs j 0)) (clausesFor s c)
   unfolding clausesIn clausesOf
   clause-in j h = rw (g .placed j h) (map-mem (clauseAt c) (placesIn (readOf c (headOf s))) j 0 (omega (arith, g .counted)))
 
-  pub every-clause : (cut : List ℕ) → ((j : ℕ) → j < k → T (holds r cut (clauseAt c (getD qs j 0)))) → (x : Clause) → List·Memᴰ x (clausesFor s c) → T (holds r cut x)
+  -- ---- the clauses of one kind
+
+  pub all-of-kind : (cut : List ℕ) (locals : Bool) → ((j : ℕ) → j < k → isLocal (clauseAt c (getD qs j 0)) ≡ locals → T (holds r cut (clauseAt c (getD qs j 0))))
+      → KindTested s c cut locals Nobody
   unfolding clausesIn clausesOf
-  every-clause cut w = map-each (clauseAt c) (λ x. T (holds r cut x)) (placesIn (readOf c (headOf s))) 0
-      (λ j h. let l : j < k = omega (arith, g .counted) in subst (λ q. T (holds r cut (clauseAt c q))) (g .placed j l) (w j l))
+  all-of-kind cut locals w = all (map-each (clauseAt c) (λ x. isLocal x ≡ locals → T (holds r cut x)) (placesIn (readOf c (headOf s))) 0
+      (λ j h. let l : j < k = omega (arith, g .counted) in subst (λ q. isLocal (clauseAt c q) ≡ locals → T (holds r cut (clauseAt c q))) (g .placed j l) (w j l)))
+
+  pub one-of-kind : (cut : List ℕ) {locals : Bool} (j : ℕ) → j < k → {b : Behind} {p : ℕ} → b ≡ Process p → Tried r cut (clauseAt c (getD qs j 0)) locals b → KindTested s c cut locals b
+  one-of-kind cut {locals} j h {p = p} e t =
+      subst (KindTested s c cut locals) (sym e) (one (clauseAt c (getD qs j 0)) (clause-in j h) p (subst (Tested r cut (clauseAt c (getD qs j 0))) e (tried-tested e t)))
+
+  pub both-kinds : (cut : List ℕ) {a b : Behind} → a ≡ Nobody → KindTested s c cut true a → b ≡ Nobody → KindTested s c cut false b
+      → (x : Clause) → List·Memᴰ x (clausesFor s c) → T (holds r cut x)
+  both-kinds cut d (all v) e (all w) x m = go (isLocal x) refl
+    where
+      go : (t : Bool) → isLocal x ≡ t → T (holds r cut x)
+      go true h = v x m h
+      go false h = w x m h
+  both-kinds cut d (all v) e (one y n p t) x m = absurd (let z : _≡_ {A = ℕ} 0 1 = cc in omega arith)
+  both-kinds cut d (one y n p t) e w x m = absurd (let z : _≡_ {A = ℕ} 0 1 = cc in omega arith)
+
+  -- where one is false the cut doesn't satisfy
+  pub kind-fails : (cut : List ℕ) {locals : Bool} {b : Behind} {p : ℕ} → b ≡ Process p → KindTested s c cut locals b → ¬ Satisfies r (clausesFor s c) cut
+  kind-fails cut e (all w) y = let z : _≡_ {A = ℕ} 0 1 = cc in omega arith
+  kind-fails cut e (one x m p t) y = tested-fails refl t (y .clauses x m)
 
   module _ (cut : List ℕ) (is : IsCut r cut) (low : Lowest r (clausesFor s c) cut) where
     -- a false clause
-    pub moved-clause : (j : ℕ) → j < k → {b : Behind} {p : ℕ} → b ≡ Process p → Tested r cut (clauseAt c (getD qs j 0)) b → Moved s c ks cut b
-    moved-clause j h {b} {p} e t =
-        let (a, m) = tested-moves r (clausesFor s c) cut (clauseAt c (getD qs j 0)) linear low (clause-in j h) b p e t in
-        subst (Moved s c ks cut) (sym e) (process p a m)
+    pub moved-clause : {locals : Bool} {b : Behind} {p : ℕ} → b ≡ Process p → KindTested s c cut locals b → Moved s c ks cut b
+    moved-clause e (all w) = absurd (let z : _≡_ {A = ℕ} 0 1 = cc in omega arith)
+    moved-clause e (one x m p t) = let (a, w) = tested-moves r (clausesFor s c) cut x linear low m (Process p) p refl t in process p a w
 
-    -- all clauses hold: the clocks decide
-    pub moved-clocks : (b : Behind) → b ≡ tooLow (clockIn ks) cut → ((j : ℕ) → j < k → T (holds r cut (clauseAt c (getD qs j 0)))) → Moved s c ks cut b
+    -- a clock
+    pub moved-low : {b : Behind} {p : ℕ} → b ≡ Process p → b ≡ tooLow (clockIn ks) cut → Moved s c ks cut b
     unfolding Under Moves
-    moved-clocks Nobody e w = nobody (every-clause cut w) (nobody-by-clock (clockIn ks) cut r (g .tables .clocks) is (sym e))
-    moved-clocks (Process p) e w =
-        let (j, l) = too-low-found (clockIn ks) cut p (sym e) in
-        process p (omega (arith, l .process, is .size))
-        (clock-moves r (clausesFor s c) linear cut low (clockIn ks) (g .tables .clocks) is p j (omega (arith, l .process, is .size)) (omega (arith, l .other, is .size)) (l .apart) (l .low))
+    moved-low {p = p} d e =
+        let (j, l) = too-low-found (clockIn ks) cut p (sym e ∙ d) in
+        subst (Moved s c ks cut) (sym d) (process p (omega (arith, l .process, is .size))
+        (clock-moves r (clausesFor s c) linear cut low (clockIn ks) (g .tables .clocks) is p j (omega (arith, l .process, is .size)) (omega (arith, l .other, is .size)) (l .apart) (l .low)))
+
+    -- local clauses and clocks name nobody: the channel clauses decide
+    pub moved-last : {a b : Behind} → a ≡ Nobody → KindTested s c cut true a → Nobody ≡ tooLow (clockIn ks) cut → KindTested s c cut false b → Moved s c ks cut b
+    moved-last d v e (all w) = nobody (both-kinds cut d v refl (all w)) (nobody-by-clock (clockIn ks) cut r (g .tables .clocks) is (sym e))
+    moved-last d v e (one x m p t) = moved-clause {locals = false} refl (one x m p t)
 
     pub in-table : InTable cut
     in-table = cut-in-table (g .tables) cut is

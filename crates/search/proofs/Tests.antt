@@ -32,7 +32,7 @@ use Rattle.cut.specs.declared.Tally.{Tally}
 use Rattle.cut.specs.Tally.{tallyOf, asked}
 use Rattle.cut.proofs.Passed.{tally-count}
 use Rattle.search.specs.Search.{Tested, Lowest, MustMove}
-use Rattle.search.specs.Search.Tested.{true as holding, localFalse, sender, receiver}
+use Rattle.search.specs.Search.Tested.{holding, localFalse, sender, receiver}
 
 T-of : {b : Bool} → b ≡ true → T b
 T-of e = rw e tt

@@ -1,5 +1,6 @@
 -- What the search is given, and what it gives.
 use mathlib.Core.Path.{_≡_}
+use mathlib.Core.Bool.{Bool, true, false, not}
 use mathlib.Core.List.{List, List·Memᴰ}
 use Prim.Native.Nat.{ℕ, _≤_, _<_}
 use lib.Dec.{T}
@@ -33,10 +34,25 @@ clausesFor s c = clausesIn c (headOf s)
 
 -- a clause holds at the cut, or is false and names who has to move
 pub data Tested (r : Run) (cut : List ℕ) (k : Clause) : Behind → Type 0 where
-  true : T (holds r cut k) → Tested r cut k Nobody
+  holding : T (holds r cut k) → Tested r cut k Nobody
   localFalse : (i v : ℕ) (o : Comparison) (x : ℤ) → k ≡ local i v o x → i < processes r → ¬ T (holds r cut k) → Tested r cut k (Process i)
   sender : (c : ℕ) (t : Test) → k ≡ on c t → channel r c .from < processes r → ¬ T (holds r cut k) → mover t (length (inTransit r cut c)) ≡ Sender → Tested r cut k (Process (channel r c .from))
   receiver : (c : ℕ) (t : Test) → k ≡ on c t → channel r c .to < processes r → ¬ T (holds r cut k) → mover t (length (inTransit r cut c)) ≡ Receiver → Tested r cut k (Process (channel r c .to))
+
+-- a clause is local, or else of a channel
+abbrev pub isLocal : Clause → Bool
+isLocal (local i v o x) = true
+isLocal (on c t) = false
+
+-- a clause of the kind that is asked for is tested; any other names nobody
+pub data Tried (r : Run) (cut : List ℕ) (k : Clause) (locals : Bool) (b : Behind) : Type 0 where
+  tested : isLocal k ≡ locals → Tested r cut k b → Tried r cut k locals b
+  passed : isLocal k ≡ not locals → b ≡ Nobody → Tried r cut k locals b
+
+-- all clauses of the kind hold, or one is false and names who has to move
+pub data KindTested (s c cut : List ℕ) (locals : Bool) : Behind → Type 0 where
+  all : ((k : Clause) → List·Memᴰ k (clausesFor s c) → isLocal k ≡ locals → T (holds (runIn s) cut k)) → KindTested s c cut locals Nobody
+  one : (k : Clause) → List·Memᴰ k (clausesFor s c) → (p : ℕ) → Tested (runIn s) cut k (Process p) → KindTested s c cut locals (Process p)
 
 -- at or below every satisfying cut
 abbrev pub Lowest : Run → List Clause → List ℕ → Type 0

@@ -1,4 +1,4 @@
-// Who has to move at a cut: named by the first clause that is false, else by the clocks.
+// Who has to move at a cut: named by the first clause that is false, or by the clocks.
 use condition::Clause;
 use condition::Local;
 use condition::Test;
@@ -21,7 +21,7 @@ ghost use Rattle.run.specs.Tables.{runIn, Tables};
 ghost use Rattle.condition.specs.Clauses.{clauseOf, clauseAt};
 ghost use Rattle.condition.specs.Known.{LocalKnown, TestKnown, ClauseKnown};
 ghost use Rattle.cut.specs.Lent.{Lent, Placed};
-ghost use Rattle.search.specs.Search.{Given, Tested, Lowest, Moved, clausesFor};
+ghost use Rattle.search.specs.Search.{Given, Tested, Tried, KindTested, Lowest, Moved, clausesFor};
 
 // A local clause names its process.
 fn local_mover(run: &[u8], places: &[u16], cut: &[u16], clause: Local) -> Behind
@@ -74,26 +74,70 @@ fn channel_mover(run: &[u8], places: &[u16], partners: &[u16], cut: &[u16], clau
     }
 }
 
-// The clause whose record stands at a place.
-pub fn clause_mover(
+// The clause whose record stands at a place, if it is of the kind that is asked for: local, or else a channel clause.
+fn clause_mover(
     run: &[u8],
     places: &[u16],
     partners: &[u16],
     cond: &[u8],
     at: usize,
     cut: &[u16],
+    locals: bool,
 ) -> Behind
     requires { ⌜ Lent (now run) (now places) (now partners) × IsCut (runIn (now run)) (now cut) × ClauseKnown (now cond) (headOf (now run)) at ⌝ }
-    ensures { λ r. ⌜ Tested (runIn (now (run .entry))) (now (cut .entry)) (clauseAt (now (cond .entry)) at) r ⌝ }
+    ensures { λ r. ⌜ Tried (runIn (now (run .entry))) (now (cut .entry)) (clauseAt (now (cond .entry)) at) locals r ⌝ }
 {
     let clause = clause_at(cond, at);
     match clause {
-        Clause::Local(local) => local_mover(run, places, cut, local),
-        Clause::Channel(test) => channel_mover(run, places, partners, cut, test),
+        Clause::Local(local) => if locals {
+            local_mover(run, places, cut, local)
+        } else {
+            Behind::Nobody
+        },
+        Clause::Channel(test) => if locals {
+            Behind::Nobody
+        } else {
+            channel_mover(run, places, partners, cut, test)
+        },
     }
 }
 
-// The first clause that is false names who has to move; where all hold, the clocks do.
+// The first clause of the kind that is false names who has to move.
+pub fn first_false(
+    run: &[u8],
+    counts: &[u16],
+    places: &[u16],
+    partners: &[u16],
+    clocks: &[u16],
+    cond: &[u8],
+    clauses: &[u16],
+    k: u16,
+    cut: &[u16],
+    locals: bool,
+) -> Behind
+    requires { ⌜ Given (now run) (now cond) (now counts) (now places) (now partners) (now clocks) (now clauses) k × IsCut (runIn (now run)) (now cut) ⌝ }
+    ensures { λ r. ⌜ KindTested (now (run .entry)) (now (cond .entry)) (now (cut .entry)) locals r ⌝ }
+{
+    let mut i: usize = 0;
+    while i < k as usize {
+        let named = clause_mover(
+            run,
+            places,
+            partners,
+            cond,
+            clauses[i] as usize,
+            cut,
+            locals,
+        );
+        let Behind::Nobody = named else {
+            return named;
+        };
+        i += 1;
+    }
+    Behind::Nobody
+}
+
+// Who has to move is named by a local clause, else by the clocks, else by a channel clause: a channel's messages are counted anew each time, so that is asked last.
 pub fn first_mover(
     run: &[u8],
     counts: &[u16],
@@ -108,13 +152,35 @@ pub fn first_mover(
     requires { ⌜ Given (now run) (now cond) (now counts) (now places) (now partners) (now clocks) (now clauses) k × IsCut (runIn (now run)) (now cut) × Lowest (runIn (now run)) (clausesFor (now run) (now cond)) (now cut) ⌝ }
     ensures { λ r. ⌜ Moved (now (run .entry)) (now (cond .entry)) (now (clocks .entry)) (now (cut .entry)) r ⌝ }
 {
-    let mut i: usize = 0;
-    while i < k as usize {
-        let named = clause_mover(run, places, partners, cond, clauses[i] as usize, cut);
-        let Behind::Nobody = named else {
-            return named;
-        };
-        i += 1;
-    }
-    too_low(clocks, cut)
+    let local = first_false(
+        run,
+        counts,
+        places,
+        partners,
+        clocks,
+        cond,
+        clauses,
+        k,
+        cut,
+        true,
+    );
+    let Behind::Nobody = local else {
+        return local;
+    };
+    let low = too_low(clocks, cut);
+    let Behind::Nobody = low else {
+        return low;
+    };
+    first_false(
+        run,
+        counts,
+        places,
+        partners,
+        clocks,
+        cond,
+        clauses,
+        k,
+        cut,
+        false,
+    )
 }

@@ -1,84 +1,32 @@
 use borrow.Author.Needs.{needs}
-use native.Mathlib.Omega.{arith}
-use mathlib.Core.Path.{_≡_, refl, sym, ap, _∙_, subst}
-use Prim.Native.Nat.{ℕ, _+_, _-_, _≤_, _<_, zero-le}
-use native.Mathlib.Nat.{eq-or-lt-of-le}
-use mathlib.Core.Logic.{⊎-elim}
-use lib.Dec.{T}
-use lib.ListN.{getD}
-use Rattle.model.specs.Clause.{holds}
-use Rattle.run.specs.Tables.{runIn}
-use Rattle.condition.specs.Clauses.{clauseAt}
-use Rattle.search.proofs.Moving.{lent, clause-known, few-clauses, moved-clause, tested-holds, moved-clocks, in-table}
+use mathlib.Core.Path.{sym, _∙_}
+use Rattle.search.proofs.Moving.{moved-clause, moved-low, moved-last, in-table}
 use Rattle.search.proofs.movers.first_mover.Statement.{statement}
 use Rattle.search.proofs.movers.first_mover.Tie as tie
 
-below : {x n : ℕ} → x < n + 1 → x ≤ n
-below h = omega arith
-
-abbrev Inv-loop : tie.InvT-loop
-Inv-loop run counts places partners clocks cond clauses k cut i₀ i = (i ≤ k) × ((j : ℕ) → j < i → T (holds (runIn run) cut (clauseAt cond (getD clauses j 0))))
-
-abbrev μ-loop : tie.MeasureT-loop
-μ-loop run counts places partners clocks cond clauses k cut i₀ i = k - i
-
-loop-holds : tie.Need-loop-holds Inv-loop μ-loop
-loop-holds c = (zero-le, λ j h. absurd (omega arith))
-
-mul-clause-mover : tie.Need-mul-clause-mover Inv-loop μ-loop
-mul-clause-mover c =
-    let r = c .before .before .before .before .before .before .before .before .before .before .pre in
-    let l = c .before .loop in
-    let few = few-clauses (r .0) in
-    omega arith
-
-shared-slice-read-clause-mover : tie.Need-shared-slice-read-clause-mover Inv-loop μ-loop
-shared-slice-read-clause-mover c =
+local : tie.Need-returns
+local c =
     let r = c .before .before .before .before .before .before .before .before .before .before .before .pre in
-    let l = c .before .before .loop in
-    let few = few-clauses (r .0) in
-    omega (arith, r .0 .long)
+    moved-clause (r .0) _ (r .1) (r .2) (c .enum-told2 .given .1) (c .before .before .first-false .ensures)
 
-cast-clause-mover : tie.Need-cast-clause-mover Inv-loop μ-loop
-cast-clause-mover c = omega (arith, c .shared-slice-known9 .given (c .before .before .loop .i))
-
-clause-mover-requires : tie.Need-clause-mover-requires Inv-loop μ-loop
-clause-mover-requires c κs =
+too-low-requires : tie.Need-too-low-requires
+too-low-requires c κs =
     let r = c .before .before .before .before .before .before .before .before .before .before .before .pre in
-    let l = c .before .before .loop in
-    (lent (r .0), r .1, clause-known (r .0) (l .i) (c .before .loop-test .taken))
+    (r .0 .tables .clocks-long, in-table (r .0) _ (r .1) (r .2))
 
-returns : tie.Need-returns Inv-loop μ-loop
-returns c =
+low : tie.Need-returns-2
+low c =
     let r = c .before .before .before .before .before .before .before .before .before .before .before .before .before .before .pre in
-    let a = c .before .before .before .before .before .before .before .before .before .before .before .before .before .before .args in
-    let l = c .before .before .before .before .before .loop in
-    moved-clause (r .0) (a .cut .now) (r .1) (r .2) (l .i) (c .before .before .before .before .loop-test .taken) (c .enum-told2 .given .1) (c .before .before .clause-mover .ensures)
+    moved-low (r .0) _ (r .1) (r .2) (c .enum-told4 .given .1) (c .before .before .too-low .ensures)
 
-add-i : tie.Need-add-i Inv-loop μ-loop
-add-i c =
-    let r = c .before .before .before .before .before .before .before .before .before .before .before .before .before .before .pre in
-    let l = c .before .before .before .before .before .loop in
-    let few = few-clauses (r .0) in
-    omega arith
-
-loop-again : tie.Need-loop-again Inv-loop μ-loop
-loop-again c =
-    let r = c .before .before .before .before .before .before .before .before .before .before .before .before .before .before .pre in
-    let a = c .before .before .before .before .before .before .before .before .before .before .before .before .before .before .args in
-    let l = c .before .before .before .before .before .loop in
-    let few = few-clauses (r .0) in
-    (omega arith, λ j h. ⊎-elim (λ e. subst (λ j. T (holds (runIn (a .run .now)) (a .cut .now) (clauseAt (a .cond .now) (getD (a .clauses .now) j 0)))) (sym e) (tested-holds (c .enum-told .given .1) (c .before .before .clause-mover .ensures))) (λ g. l .inv .1 j g) (eq-or-lt-of-le (below h)))
-
-too-low-requires : tie.Need-too-low-requires Inv-loop μ-loop
-too-low-requires c κs = let r = c .before .before .before .before .before .before .before .before .before .before .pre in (r .0 .tables .clocks-long, in-table (r .0) _ (r .1) (r .2))
-
-returns-2 : tie.Need-returns-2 Inv-loop μ-loop
-returns-2 c = let r = c .before .before .before .before .before .before .before .before .before .before .before .pre in moved-clocks (r .0) _ (r .1) (r .2) _ (c .too-low .ensures) (λ j h. c .before .before .loop .inv .1 j (omega (arith, c .before .loop-test .left)))
+last : tie.Need-returns-3
+last c =
+    let r = c .before .before .before .before .before .before .before .before .before .before .before .before .before .before .before .pre in
+    moved-last (r .0) _ (r .1) (r .2) (c .before .before .before .before .enum-told .given .1) (c .before .before .before .before .before .before .first-false .ensures)
+    (sym (c .before .enum-told3 .given .1) ∙ c .before .before .before .too-low .ensures) (c .first-false2 .ensures)
 
 pub first-mover-spec : {M : Type 1} → statement M
 first-mover-spec =
     tie.close (tie.spec
-    Inv-loop μ-loop loop-holds mul-clause-mover shared-slice-read-clause-mover cast-clause-mover
-    clause-mover-requires (λ c. search needs) (λ c. search needs) returns add-i (λ c. omega arith) loop-again
-    too-low-requires returns-2)
+    (λ c κs. search needs) (λ c. search needs) (λ c. search needs) local too-low-requires
+    (λ c. search needs) (λ c. search needs) low (λ c κs. search needs) last)
