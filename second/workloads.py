@@ -11,6 +11,7 @@ NAME.case, in the form that cases.py describes.
   ordinary-half     the same with half as many states
   ordinary-quarter  the same with a quarter
   longest           the search moves as often as it can, with the most clauses
+  counted           the same, and a channel clause names each move
   none              the ordinary run; seven of its clauses and one that never holds
   hostile           numbers and receives in the order that costs the pairing most
   desks             the run of two desks with marked case 4
@@ -95,6 +96,7 @@ def workloads() -> Iterator[Workload]:
         aim = ordinary(ORDINARY_STATES // share)
         yield Workload(name, as_bytes(aim.run), as_condition(ordinary_clauses(aim)))
     yield longest()
+    yield counted()
     never = channel_clause(0, SOME_STAMP_EQUALS, -1)
     yield Workload("none", run, as_condition([*clauses[:-1], never]))
     yield hostile()
@@ -211,27 +213,50 @@ class Layout:
         ]
 
 
-def longest() -> Workload:
-    """A move tests all clauses: the local ones, false up to the end, stand last."""
+def longest_layout() -> Layout:
+    """Rounds of a send, a receive and an internal event, up to the most states."""
     layout = Layout(LONGEST_PROCESSES)
     rounds = (LONGEST_STATES // LONGEST_PROCESSES - 1) // 3
     for message in range(rounds):
         layout.all_send(message)
         layout.all_receive(message)
         layout.fill(len(layout.draft.executed) + LONGEST_PROCESSES)
-    layout.fill(LONGEST_STATES)
-    tests = (
-        (COUNT_AT_MOST, 0), (COUNT_AT_LEAST, 0), (COUNT_EXACTLY, 0),
-        (NO_STAMP_EQUALS, 2), (NO_STAMP_EQUALS, MOST_STATES),
-        (EVERY_STAMP_AT_LEAST, 0), (EVERY_STAMP_AT_LEAST, MOST_STATES),
-    )
-    clauses: list[Clause] = [
+    return layout
+
+
+def on_each_channel(tests: tuple[tuple[int, int], ...]) -> list[Clause]:
+    return [
         channel_clause(channel, test, operand)
         for channel in range(LONGEST_PROCESSES)
         for test, operand in tests
     ]
+
+
+def longest() -> Workload:
+    """A move tests all clauses: the local ones, false up to the end, stand last."""
+    layout = longest_layout()
+    layout.fill(LONGEST_STATES)
+    clauses = on_each_channel((
+        (COUNT_AT_MOST, 0), (COUNT_AT_LEAST, 0), (COUNT_EXACTLY, 0),
+        (NO_STAMP_EQUALS, 2), (NO_STAMP_EQUALS, MOST_STATES),
+        (EVERY_STAMP_AT_LEAST, 0), (EVERY_STAMP_AT_LEAST, MOST_STATES),
+    ))
     condition = as_condition(clauses + layout.at_the_end())
     return Workload("longest", as_bytes(layout.run()), condition)
+
+
+def counted() -> Workload:
+    """All clauses count: those that always hold, then one for each sender's last send."""
+    layout = longest_layout()
+    last = len(layout.draft.histories[0]) + 1
+    layout.all_send(last)
+    clauses = on_each_channel((
+        (COUNT_AT_LEAST, 0), (COUNT_AT_MOST, MOST_STATES - 1), (COUNT_AT_MOST, MOST_STATES),
+        (NO_STAMP_EQUALS, 0), (NO_STAMP_EQUALS, MOST_STATES),
+        (EVERY_STAMP_AT_LEAST, 0), (EVERY_STAMP_AT_LEAST, 1),
+    ))
+    condition = as_condition(clauses + on_each_channel(((SOME_STAMP_EQUALS, last),)))
+    return Workload("counted", as_bytes(layout.run()), condition)
 
 
 def hostile() -> Workload:
