@@ -12,7 +12,7 @@ pub fn slot_of(p: u16, k: u16) -> usize
     requires { ⌜ HasSlot p k ⌝ }
     ensures { λ r. ⌜ (r ≡ slot p k) × (r < 4096) ⌝ }
 {
-    512 * (p as usize) + (k as usize - 1)
+    512 * (p as usize) + (k - 1) as usize
 }
 
 // The byte place of its record.

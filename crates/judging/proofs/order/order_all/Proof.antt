@@ -36,7 +36,6 @@ loop-less c =
 
 loop-again : tie.Need-loop-again Inv-loop μ-loop
 loop-again c =
-    let r = c .before .before .before .before .before .before .before .before .before .before .before .before .before .before .before .pre in
     let l = c .before .before .before .before .before .before .before .before .loop in
     let i = l .inv in
     (c .before .before .before .before .before .sweep .kept .1 .1 .1 .1 .0 ∙ i .0, c .before .before .before .before .before .sweep .kept .1 .1 .1 .1 .1 .0 ∙ i .1, c .before .before .before .before .before .sweep .ensures .sound)
@@ -58,8 +57,6 @@ same-length-2 c =
 returns : tie.Need-returns Inv-loop μ-loop
 returns c =
     let r = c .before .before .before .before .before .before .before .before .before .before .before .before .before .before .before .pre in
-    let l = c .before .before .before .before .before .before .before .before .loop in
-    let i = l .inv in
     ordered _ _ _ _ _ _ (r .6 ∙ sym (processes-are _ (r .0 .read))) (c .before .before .before .before .before .sweep .ensures) (c .if1 .taken)
 
 pub order-all-spec : {M : Type 1} → statement M

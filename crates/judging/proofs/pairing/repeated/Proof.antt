@@ -46,7 +46,6 @@ returns c =
     let r = c .before .before .before .before .before .before .before .pre in
     let a = c .before .before .before .before .before .before .before .args in
     let e = c .before .before .before .entry-of .ensures in
-    let l = entry-less (a .sends) (a .message .channel) (r .3) in
     let h = rw e at (c .if1 .taken) in
     rw e (repeats-raised _ (a .p) (a .k) (a .sends) (a .message) (a .marks .now) (r .2) (r .3) (r .4) h)
 
@@ -57,10 +56,8 @@ find-requires c κs =
 
 returns-2 : tie.Need-returns-2
 returns-2 c =
-    let r = c .before .before .before .before .before .before .before .before .pre in
     let a = c .before .before .before .before .before .before .before .before .args in
     let e = c .before .before .before .before .entry-of .ensures in
-    let l = entry-less (a .sends) (a .message .channel) (r .3) in
     let h = rw e at (c .before .if1 .left) in
     repeats-found _ (a .p) (a .k) (a .sends) (a .message) (a .marks .now) _ h (c .find .ensures)
 

@@ -30,7 +30,6 @@ returns-2 c =
 first-wrong-clock-requires : tie.Need-first-wrong-clock-requires
 first-wrong-clock-requires c κs =
     let r = c .before .before .before .before .before .before .before .before .before .before .before .before .before .before .before .before .before .before .before .pre in
-    let p = paired-none (c .before .before .before .before .before .before .before .before .before .before .before .before .first-unpaired .ensures) (c .before .before .before .before .before .before .before .before .enum-told .given .1) in
     let o = circular-none (c .before .before .before .before .before .first-circular .ensures) (c .before .enum-told2 .given .1) in
     (r .0, o .1, c .before .before .before .before .before .first-circular .kept .1 .1 .1 .1 .0 ∙ r .2, ap (λ h. h .processes) (r .3))
 

@@ -28,7 +28,6 @@ loop-holds c = (zero-le, λ j h. absurd (omega arith))
 mul-clause-mover : tie.Need-mul-clause-mover Inv-loop μ-loop
 mul-clause-mover c =
     let r = c .before .before .before .before .before .before .before .before .before .before .pre in
-    let a = c .before .before .before .before .before .before .before .before .before .before .args in
     let l = c .before .loop in
     let few = few-clauses (r .0) in
     omega arith
@@ -36,7 +35,6 @@ mul-clause-mover c =
 shared-slice-read-clause-mover : tie.Need-shared-slice-read-clause-mover Inv-loop μ-loop
 shared-slice-read-clause-mover c =
     let r = c .before .before .before .before .before .before .before .before .before .before .before .pre in
-    let a = c .before .before .before .before .before .before .before .before .before .before .before .args in
     let l = c .before .before .loop in
     let few = few-clauses (r .0) in
     omega (arith, r .0 .long)
@@ -47,9 +45,7 @@ cast-clause-mover c = omega (arith, c .shared-slice-known9 .given (c .before .be
 clause-mover-requires : tie.Need-clause-mover-requires Inv-loop μ-loop
 clause-mover-requires c κs =
     let r = c .before .before .before .before .before .before .before .before .before .before .before .pre in
-    let a = c .before .before .before .before .before .before .before .before .before .before .before .args in
     let l = c .before .before .loop in
-    let few = few-clauses (r .0) in
     (lent (r .0), r .1, clause-known (r .0) (l .i) (c .before .loop-test .taken))
 
 returns : tie.Need-returns Inv-loop μ-loop
@@ -57,13 +53,11 @@ returns c =
     let r = c .before .before .before .before .before .before .before .before .before .before .before .before .before .before .pre in
     let a = c .before .before .before .before .before .before .before .before .before .before .before .before .before .before .args in
     let l = c .before .before .before .before .before .loop in
-    let few = few-clauses (r .0) in
     moved-clause (r .0) (a .cut .now) (r .1) (r .2) (l .i) (c .before .before .before .before .loop-test .taken) (c .enum-told2 .given .1) (c .before .before .clause-mover .ensures)
 
 add-i : tie.Need-add-i Inv-loop μ-loop
 add-i c =
     let r = c .before .before .before .before .before .before .before .before .before .before .before .before .before .before .pre in
-    let a = c .before .before .before .before .before .before .before .before .before .before .before .before .before .before .args in
     let l = c .before .before .before .before .before .loop in
     let few = few-clauses (r .0) in
     omega arith
