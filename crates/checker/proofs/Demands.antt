@@ -9,12 +9,12 @@ use lib.Dec.{T}
 use lib.ListN.{length, getD, take, drop, length-append, length-drop, List·getD-append}
 use lib.Seq.{ext-getD, length-take-le, getD-take, getD-append-add, getD-drop}
 use Rattle.model.specs.Run.{Known, processes}
-use Rattle.model.specs.Cut.{at, Consistent, ByMessage, SameUpTo}
+use Rattle.model.specs.Cut.{at, Consistent, SameUpTo}
 use Rattle.model.specs.Clause.{Clause, holds, Linear, Satisfies, First}
 use Rattle.model.proofs.Order.{consistent-by-message}
 use Rattle.model.proofs.Decide.{has-first}
 use Rattle.model.proofs.Past.{nothing-past}
-use Rattle.model.proofs.Lattice.{first-unique, fewer-clauses, no-earlier}
+use Rattle.model.proofs.Lattice.{fewer-clauses, no-earlier}
 use Rattle.record.specs.Refusal.{orIf, number, refusal}
 use Rattle.record.specs.Refusal.Reason.{noRoom}
 use Rattle.record.specs.Record.{headOf}

@@ -4,11 +4,10 @@ use mathlib.Core.Logic.{⊎-elim}
 use mathlib.Core.List.{List}
 use Prim.Native.Nat.{ℕ, suc, _≤_, _<_}
 use native.Mathlib.Omega.{arith}
-use lib.ListN.{length, getD}
+use lib.ListN.{length}
 use lib.Seq.{ext-getD}
 use Rattle.model.proofs.Lists.{le-or-lt}
 use Rattle.model.proofs.Lattice.{first-unique}
-use Rattle.record.specs.Record.{headOf}
 use Rattle.record.specs.declared.Refusal.{Refusal}
 use Rattle.judging.specs.Judged.{Judged}
 use Rattle.run.specs.declared.Reading.the-variants as R

@@ -9,8 +9,8 @@ use lib.Dec.{T}
 use lib.IntN.{pos}
 use lib.ListN.{length, getD}
 use Rattle.model.specs.Run.{Run, processes, IsState, into, state, paired, Known}
-use Rattle.model.specs.Cut.{AfterCircle, at, IsCut, Consistent, ClockIs, sends, waiting, between, inTransit}
-use Rattle.model.specs.Clause.{Clause, holds, Satisfies, First}
+use Rattle.model.specs.Cut.{AfterCircle, at, IsCut, Consistent, ClockIs, inTransit}
+use Rattle.model.specs.Clause.{Clause, Satisfies, First}
 use Rattle.model.specs.Clause.Clause.{local, on}
 use Rattle.model.specs.Clause.Comparison.{equal, atLeast}
 use Rattle.model.specs.Clause.Test.{countAtMost, countAtLeast, countIs, everyAtLeast, someAtMost}
@@ -27,7 +27,7 @@ use Rattle.run.specs.Judge.{headNo, lineNo, nameNo, fieldNo, startNo, sideNo, s
 use Rattle.run.specs.Read.{countsOf, ended, readFrom, readOf}
 use Rattle.run.specs.Read.Verdict.{accepted}
 use Rattle.run.specs.Tables.{statesOf, runIn, placeOf}
-use Rattle.judging.specs.Judged.{Unpaired, Circular, WrongClock, Nowhere, FirstAt, Judged}
+use Rattle.judging.specs.Judged.{Circular, WrongClock, Nowhere, Judged}
 use Rattle.judging.specs.Judged.Judged.{byClock, wholly}
 use Rattle.run.specs.declared.Reading.the-variants as R
 use Rattle.condition.specs.Read as D

@@ -16,7 +16,7 @@ pub fn behind(clocks: &[u16], cut: &[u16], j: usize) -> Behind
     requires { ⌜ (length (now clocks) ≡ 32768) × InTable (now cut) × (j < length (now cut)) ⌝ }
     ensures { λ r. ⌜ r ≡ behindOf (clockIn (now (clocks .entry))) (now (cut .entry)) j ⌝ }
 {
-    let row = 8 * slot_of(j, cut[j]);
+    let row = 8 * slot_of(j as u16, cut[j]);
     let mut i = 0;
     while i < cut.len() {
         if (i != j) & (cut[i] <= clocks[row + i]) {

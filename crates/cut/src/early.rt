@@ -3,7 +3,6 @@ use model::Event;
 use run::slots::event_at;
 use run::slots::slot_of;
 use run::states::channel_at;
-ghost use mathlib.Core.Path.{_≡_};
 ghost use Prim.Native.Nat.{_<_};
 ghost use Rattle.model.specs.Run.{IsState, processes};
 ghost use Rattle.model.specs.Cut.{IsCut};
@@ -23,7 +22,7 @@ fn sent_past(run: &[u8], places: &[u16], partners: &[u16], cut: &[u16], p: u16, 
         Event::Send(_) => false,
         Event::Receive(m) => {
             let from = channel_at(run, m.channel).from as usize;
-            let slot = slot_of(p as usize, k);
+            let slot = slot_of(p, k);
             cut[from] < partners[slot]
         }
     }

@@ -1,5 +1,4 @@
 // Reads a run and a condition, and prints the first cut of the run at which the condition holds.
-use libc::STDOUT_FILENO;
 ghost use Prim.Native.Nat.{_≤_};
 ghost use lib.ListN.{length};
 

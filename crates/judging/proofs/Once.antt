@@ -1,5 +1,5 @@
 -- The judging's contract allows one answer.
-use mathlib.Core.Path.{_≡_, refl, sym, ap, _∙_}
+use mathlib.Core.Path.{_≡_, refl, ap}
 use mathlib.Core.List.{List}
 use Prim.Native.Nat.{ℕ}
 use native.Mathlib.Omega.{arith}
@@ -7,7 +7,7 @@ use Rattle.record.specs.Refusal.{number, refusal}
 use Rattle.record.specs.Refusal.Reason.{pairing, circle, clock}
 use Rattle.record.specs.declared.File.the-variants.{Run}
 use Rattle.run.specs.declared.Reading.{Reading}
-use Rattle.run.specs.declared.Reading.the-variants.{Accepted, Refused}
+use Rattle.run.specs.declared.Reading.the-variants.{Refused}
 use Rattle.judging.specs.Judged.{Judged, FirstAt, Nowhere}
 use Rattle.judging.specs.Judged.Judged.{byPass, byPairing, byCircle, byClock, wholly}
 

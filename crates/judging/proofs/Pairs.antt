@@ -4,7 +4,7 @@ use mathlib.Core.Logic.{_⊎_, inl, inr, ⊎-elim, _≢_}
 use mathlib.Core.Bool.{Bool, true, false, not, _&&_}
 use mathlib.Core.List.{List}
 use mathlib.Core.Option.{Option, some, none}
-use Prim.Native.Nat.{ℕ, zero, suc, _+_, _-_, _*_, _≤_, _<_}
+use Prim.Native.Nat.{ℕ, zero, suc, _+_, _-_, _≤_, _<_}
 use native.Mathlib.Nat.{eq-or-lt-of-le}
 use native.Mathlib.Decide.{ℕ-discrete}
 use native.Mathlib.Omega.{arith}
@@ -17,7 +17,7 @@ use Rattle.model.specs.declared.Event.{Event}
 use Rattle.model.specs.declared.Event.the-variants.{Start, Internal, Send, Receive}
 use Rattle.model.specs.Run.{Run, count, channel, state, into, IsState, Sides, sending, receiving, sameMessage, paired, Paired}
 use Rattle.run.specs.Tables.{slot}
-use Rattle.judging.specs.Pairing.{which, carries, Found, entry, Rising, Clear, Faulty, Backed, Met, Higher, Repeats, Entered, Received, Settled, Row}
+use Rattle.judging.specs.Pairing.{which, carries, Found, entry, Rising, Higher, Repeats, Received, Settled}
 use Rattle.judging.specs.Pairing.Found.{nowhere, here}
 use Rattle.judging.specs.Pairing.Faulty.{again, alone}
 use Rattle.model.proofs.Lists.{and-T, T-and, eq→eqb}

@@ -1,10 +1,10 @@
 -- What the pairing and the order tell of the whole run: faults are the paper's, and where there is none the run is known, with its partners and its clocks.
 use mathlib.Core.Path.{_≡_, refl, sym, ap, _∙_, subst}
 use mathlib.Core.Logic.{_⊎_, inl, inr, ⊎-elim, _≢_}
-use mathlib.Core.Bool.{Bool, true, false, cond, _&&_}
+use mathlib.Core.Bool.{Bool, true, false, cond}
 use mathlib.Core.List.{List}
 use mathlib.Core.Option.{Option, some, none}
-use Prim.Native.Nat.{ℕ, zero, suc, _+_, _-_, _*_, _≤_, _<_}
+use Prim.Native.Nat.{ℕ, suc, _+_, _-_, _≤_, _<_}
 use native.Mathlib.Nat.{eq-or-lt-of-le}
 use native.Mathlib.Decide.{ℕ-discrete}
 use native.Mathlib.Omega.{arith}
@@ -14,10 +14,10 @@ use Rattle.model.specs.Cut.{Clocks}
 use lib.ListN.{length, getD}
 use Rattle.model.specs.declared.Message.{Message}
 use Rattle.model.specs.declared.Event.{Event}
-use Rattle.model.specs.declared.Event.the-variants.{Start, Internal, Send, Receive}
-use Rattle.model.specs.Run.{Run, count, channel, into, IsState, sending, receiving, sameMessage, Paired, Sides, Known}
+use Rattle.model.specs.declared.Event.the-variants.{Send, Receive}
+use Rattle.model.specs.Run.{Run, count, channel, into, IsState, sending, receiving, sameMessage, Paired, Known}
 use Rattle.model.proofs.Lists.{le-or-lt, eq→eqb, and-T, T-and}
-use Rattle.model.proofs.Pairing.{view, to-side, one-send, one-receive, sent-there, received-there, process-there}
+use Rattle.model.proofs.Pairing.{view, to-side, one-send, one-receive, sent-there, received-there}
 use Rattle.model.proofs.Messages.{sending-send, receiving-receive}
 use Rattle.record.specs.Record.{headOf}
 use Rattle.judging.specs.declared.First.{First}

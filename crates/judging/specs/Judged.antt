@@ -20,7 +20,7 @@ use Rattle.judging.specs.declared.First.{First}
 use Rattle.judging.specs.declared.First.the-variants.{Nothing, At}
 use Rattle.run.specs.declared.Reading.{Reading}
 use Rattle.run.specs.declared.Reading.the-variants.{Accepted, Refused}
-use Rattle.run.specs.Read.{Verdict, readOf}
+use Rattle.run.specs.Read.{readOf}
 use Rattle.run.specs.Read.Verdict.{refused, accepted}
 use Rattle.run.specs.Tables.{statesOf, runIn, placeOf, Partnered, clockIn, Tables}
 

@@ -6,11 +6,11 @@ use mathlib.Core.List.{List}
 use mathlib.Core.Option.{Option, some}
 use Prim.Native.Nat.{ℕ, suc, _+_, _*_, _≤_, _<_}
 use lib.Dec.{T}
-use lib.ListN.{length, getD, set}
+use lib.ListN.{getD, set}
 use Rattle.model.specs.declared.Message.{Message}
 use Rattle.model.specs.declared.Event.{Event}
 use Rattle.model.specs.declared.Event.the-variants.{Receive}
-use Rattle.model.specs.Run.{Run, count, processes, into, IsState, sending, receiving, sameMessage, Paired}
+use Rattle.model.specs.Run.{Run, into, IsState, sending, receiving, sameMessage, Paired}
 use Rattle.run.specs.Tables.{slot}
 
 -- what an event sends, or what it receives

@@ -2,7 +2,7 @@
 use crate::First;
 use run::slots::place_of;
 ghost use mathlib.Core.Path.{_≡_};
-ghost use Prim.Native.Nat.{ℕ, _+_, _≤_, _<_};
+ghost use Prim.Native.Nat.{ℕ, _+_, _<_};
 ghost use mathlib.Core.Logic.{_≢_};
 ghost use lib.ListN.{length, getD};
 ghost use Rattle.record.specs.Record.{headOf};

@@ -38,7 +38,7 @@ fn ahead_of(run: &[u8], places: &[u16], partners: &[u16], p: u16, k: u16) -> Ahe
         },
         Event::Receive(m) => {
             let process = channel_at(run, m.channel).from;
-            let slot = slot_of(p as usize, k);
+            let slot = slot_of(p, k);
             Ahead {
                 process,
                 state: partners[slot] - 1,
@@ -61,7 +61,7 @@ fn number_at(clocks: &[u16], p: u16, k: u16, i: u16) -> u16
     if k == 0 {
         return 0;
     }
-    let entry = 8 * slot_of(p as usize, k) + i as usize;
+    let entry = 8 * slot_of(p, k) + i as usize;
     clocks[entry]
 }
 
@@ -83,7 +83,7 @@ fn clock_row(clocks: &mut [u16], n: u16, p: u16, k: u16, ahead: Ahead)
     requires { ⌜ (length (now clocks) ≡ 32768) × (n ≤ 8) × (p < 8) × (1 ≤ k) × (k ≤ 512) × (ahead .process < 8) × (ahead .state ≤ 512) × (ahead .state ≢ 0 → ahead .process ≢ p) ⌝ }
     ensures { λ _. ⌜ Written n p k (ahead .process) (ahead .state) (now (clocks .entry)) (now (clocks .exit)) ⌝ }
 {
-    let row = 8 * slot_of(p as usize, k);
+    let row = 8 * slot_of(p, k);
     let mut i: u16 = 0;
     while i < n {
         let number = number_of(clocks, p, k, ahead, i);
@@ -170,7 +170,7 @@ fn differs(run: &[u8], places: &[u16], clocks: &[u16], n: u16, p: u16, k: u16) -
     requires { ⌜ Placed (now run) (now places) × Clocks (runIn (now run)) (clockIn (now clocks)) × (length (now clocks) ≡ 32768) × (n ≡ headOf (now run) .processes) × IsState (runIn (now run)) p k ⌝ }
     ensures { λ r. ⌜ Compared (now (run .entry)) p k r ⌝ }
 {
-    let row = 8 * slot_of(p as usize, k);
+    let row = 8 * slot_of(p, k);
     let at = place_of(places, p, k) + 34;
     let mut i: u16 = 0;
     while i < n {

@@ -10,7 +10,7 @@ use run::states::channel_at;
 ghost use mathlib.Core.Path.{_≡_};
 ghost use mathlib.Core.Bool.{true, false};
 ghost use Prim.Native.Nat.{_+_, _*_, _≤_, _<_};
-ghost use lib.ListN.{length, getD, replicate};
+ghost use lib.ListN.{length, replicate};
 ghost use Rattle.model.specs.Run.{count, into, channel, IsState};
 ghost use Rattle.record.specs.Record.{headOf};
 ghost use Rattle.run.specs.Tables.{runIn, Placed, Listed};
@@ -136,9 +136,9 @@ fn enter(
     if l == 0 {
         return true;
     }
-    let from = channel_at(run, message.channel).from as usize;
+    let from = channel_at(run, message.channel).from;
     let other = slot_of(from, l);
-    let own = slot_of(p as usize, k);
+    let own = slot_of(p, k);
     partners[other] = k;
     partners[own] = l;
     false

@@ -6,7 +6,6 @@ use mathlib.Core.List.{List}
 use mathlib.Core.Option.{Option, some, none}
 use Prim.Native.Nat.{ℕ, zero, suc, _+_, _≤_}
 use native.Mathlib.Nat.{eq-or-lt-of-le}
-use native.Mathlib.Decide.{ℕ-discrete}
 use native.Mathlib.Omega.{arith}
 use lib.Dec.{T}
 use lib.ListN.{length}
@@ -14,8 +13,8 @@ use Rattle.model.specs.declared.Message.{Message}
 use Rattle.model.specs.declared.Event.the-variants.{Send, Receive}
 use Rattle.model.specs.Run.{Run, into, channel, paired, Paired, Known}
 use Rattle.model.specs.Cut.{at, IsCut, Consistent, ByMessage, sends, waiting, add, upTo, between, inTransit}
-use Rattle.model.proofs.Pairing.{view, pair, from-end, one-send, one-receive, sent-there, received-there}
-use Rattle.model.proofs.Messages.{arrived, receives, sends-send, send-sends, receives-receive, receive-receives, arrived-at, at-arrived}
+use Rattle.model.proofs.Pairing.{view, from-end, one-send, one-receive, sent-there}
+use Rattle.model.proofs.Messages.{arrived, receives, sends-send, send-sends, receives-receive, receive-receives, arrived-at}
 use Rattle.model.proofs.Order.{consistent-by-message}
 
 -- lists that agree state by state are as long, and one that has a message more at one state is longer by one

@@ -12,7 +12,7 @@ use lib.ListN.{length, getD}
 use Rattle.model.specs.declared.Message.{Message}
 use Rattle.model.specs.declared.Event.{Event}
 use Rattle.model.specs.declared.Event.the-variants.{Start, Internal, Send, Receive}
-use Rattle.model.specs.Run.{Run, State, into, channel, count, processes, IsState, receiving, paired, Paired, Known}
+use Rattle.model.specs.Run.{Run, State, into, channel, count, processes, IsState, receiving, paired, Known}
 use Rattle.model.specs.Cut.{at, IsCut, ByMessage, someUpTo}
 use Rattle.model.specs.Clause.{everyOf, Clause, holds, Linear, Satisfies, First, Last}
 use Rattle.model.proofs.Lists.{eq→eqb, and-T, T-and, everyBelow, some-at, at-some, every-below, below-every, every-mem, mem-every, keep, keep-mem, mem-keep}

@@ -1,6 +1,6 @@
 -- Small runs on which the definitions are computed: the run of two desks with its marked cases, and what those cases leave open.
 use mathlib.Core.Path.{_≡_, refl}
-use mathlib.Core.Bool.{Bool, true, false}
+use mathlib.Core.Bool.{true, false}
 use mathlib.Core.List.{List, [], _∷_, List·Memᴰ, List·Memᴰ·head, List·Memᴰ·tail}
 use mathlib.Core.Logic.{inl, ⊎-elim, _≢_}
 use mathlib.Core.Option.{Option, some, none}
@@ -13,7 +13,7 @@ use Rattle.model.specs.declared.Event.{Event}
 use Rattle.model.specs.declared.Event.the-variants.{Start, Internal, Send, Receive}
 use Rattle.model.specs.Run.{Run, State, history, state, into, IsState, paired, Paired, Known}
 use Rattle.model.specs.Cut.{Before, AfterCircle, ClockIs, at, sends, waiting, between, inTransit, SameUpTo}
-use Rattle.model.specs.Cut.Before.{next, message, through}
+use Rattle.model.specs.Cut.Before.{message, through}
 use Rattle.model.specs.Clause.{Test, passes, Clause, holds, Linear, Satisfies, First}
 use Rattle.model.specs.Clause.Clause.{local, on}
 use Rattle.model.specs.Clause.Comparison.{equal, other, atMost, atLeast}

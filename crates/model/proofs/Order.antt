@@ -1,17 +1,14 @@
 -- A cut is consistent exactly if each message received up to it was sent up to it, and exactly if its clocks say so.
-use mathlib.Core.Path.{_≡_, refl, sym, ap, _∙_}
+use mathlib.Core.Path.{_≡_, sym, _∙_}
 use mathlib.Core.Logic.{_⊎_, inl, inr, ⊎-elim, _≢_, _↔_}
-use mathlib.Core.List.{List, []}
+use mathlib.Core.List.{List}
 use Prim.Native.Nat.{ℕ, zero, suc, _≤_, _<_}
 use native.Mathlib.Nat.{eq-or-lt-of-le, le-antisymm}
 use native.Mathlib.Decide.{le-ind, ℕ-discrete}
 use native.Mathlib.Omega.{arith}
-use lib.ListN.{length, List·getD-eq-default}
-use Rattle.model.specs.declared.Message.{Message}
-use Rattle.model.specs.declared.Event.the-variants.{Start, Send, Receive}
 use Rattle.model.proofs.Lists.{le-or-lt}
 use Rattle.model.proofs.Pairing.{view, apart, one-send, sent-there, received-there, process-there}
-use Rattle.model.specs.Run.{Paired, Known, Run, into, count, processes, IsState}
+use Rattle.model.specs.Run.{Paired, Known, Run, count, processes, IsState}
 use Rattle.model.specs.Cut.{Before, ClockIs, ByClock, ByMessage, Clocks, Consistent, IsCut, at}
 use Rattle.model.specs.Cut.Before.{next, message, through}
 

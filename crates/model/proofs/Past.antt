@@ -1,6 +1,6 @@
 -- Nothing past the cut counts: two runs that agree up to the first cut of one have the same first cut.
 use mathlib.Core.Path.{_≡_, refl, sym, ap, _∙_, subst}
-use mathlib.Core.Bool.{cond, _||_}
+use mathlib.Core.Bool.{cond}
 use mathlib.Core.List.{List}
 use mathlib.Core.Option.{Option, none}
 use Prim.Native.Nat.{ℕ, zero, suc, _≤_}
@@ -10,8 +10,8 @@ use lib.Dec.{T}
 use lib.ListN.{length, getD, take, length-take}
 use lib.Seq.{take-take, getD-take}
 use Rattle.model.specs.declared.Message.{Message}
-use Rattle.model.specs.Run.{Run, State, noState, nth, state, into, history, channel, processes, sending, receiving, sameMessage, paired, Known}
-use Rattle.model.specs.Cut.{at, IsCut, ByMessage, onChannel, sends, waiting, add, upTo, between, inTransit, SameUpTo}
+use Rattle.model.specs.Run.{Run, State, noState, nth, state, into, history, channel, processes, sending, paired, Known}
+use Rattle.model.specs.Cut.{at, IsCut, ByMessage, onChannel, sends, waiting, upTo, between, inTransit, SameUpTo}
 use Rattle.model.specs.Clause.{holds, compares, passes, Clause, Linear, Satisfies, First}
 use Rattle.model.specs.Clause.Clause.{local, on}
 use Rattle.model.proofs.Order.{consistent-by-message}

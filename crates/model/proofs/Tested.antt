@@ -1,16 +1,16 @@
 -- A test that computes for what an accepted run is known to obey: for runs that are written out, as in Desks.
 use mathlib.Core.Path.{_≡_, refl, ap, subst}
-use mathlib.Core.Logic.{⊎-elim, _≢_, _↔_}
+use mathlib.Core.Logic.{⊎-elim, _↔_}
 use mathlib.Core.Bool.{Bool, not, _&&_, _||_}
 use mathlib.Core.Option.{Option, some}
-use Prim.Native.Nat.{ℕ, zero, suc, _≤_, _<_}
+use Prim.Native.Nat.{ℕ, zero, suc, _<_}
 use native.Mathlib.Omega.{arith}
 use lib.Dec.{T, T-not, eqb, ltb, eqb→eq, ltb→lt}
 use lib.ListN.{length}
 use Rattle.model.specs.declared.Message.{Message}
 use Rattle.model.specs.declared.Event.{Event}
 use Rattle.model.specs.declared.Event.the-variants.{Start, Internal, Send, Receive}
-use Rattle.model.specs.Run.{Run, into, channel, processes, count, IsState, sending, receiving, sameMessage, paired, Paired, Known}
+use Rattle.model.specs.Run.{Run, into, channel, processes, count, IsState, sending, receiving, sameMessage, paired, Known}
 use Rattle.model.specs.Cut.{someUpTo}
 use Rattle.model.proofs.Lists.{eq→eqb, and-T, T-and, or-T, everyBelow, every-below, some-at}
 use Rattle.model.proofs.Pairing.{sent-there, received-there, process-there}

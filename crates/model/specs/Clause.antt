@@ -1,5 +1,4 @@
 -- Clauses, who has to move, and the first and the last satisfying cut.
-use mathlib.Core.Path.{_≡_}
 use mathlib.Core.Bool.{Bool, true, false, not, _&&_, _||_, cond}
 use mathlib.Core.List.{List, [], _∷_, List·Memᴰ}
 use Prim.Native.Nat.{ℕ, _%_, _≤_}

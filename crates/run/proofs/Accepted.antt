@@ -1,6 +1,6 @@
 -- What a run that the pass accepts is: its head, its channels, where its states stand, and that each of them is right.
 use mathlib.Core.Path.{_≡_, refl, sym, ap, _∙_, subst}
-use mathlib.Core.Logic.{_⊎_, inl, inr, ⊎-elim}
+use mathlib.Core.Logic.{_⊎_, ⊎-elim}
 use mathlib.Core.Bool.{Bool, true, false, cond}
 use mathlib.Core.List.{List, [], _∷_, _++_}
 use Prim.Native.Nat.{ℕ, zero, suc, _+_, _*_, _≤_, _<_}
@@ -12,21 +12,19 @@ use Rattle.model.proofs.Lists.{le-or-lt}
 use Rattle.record.specs.Bytes.{u16At}
 use lib.ListN.{length, getD, take, length-append, List·getD-append}
 use lib.Seq.{getD-append-seam, take-append-le, take-append-seam}
-use Rattle.record.specs.Refusal.{refusal}
 use Rattle.record.specs.Record.{lengthAt, kindAt, lengthOf, headOf, openingNo, lineAt, fieldsAt, recordAt, stepAt}
 use Rattle.record.specs.declared.File.the-variants.{Run}
-use Rattle.record.specs.declared.Refusal.{Refusal}
 use Rattle.record.specs.declared.Record.{Record}
 use Rattle.record.specs.declared.Record.the-variants as R
 use Rattle.record.specs.declared.Step.{Step}
 use Rattle.record.specs.declared.Step.the-variants as S
 use Rattle.record.proofs.Laws.{opened, opened-whole, by-place}
 use Rattle.run.specs.States.{placesOf, channelAt}
-use Rattle.run.specs.Judge.{judgeNo, lacks, endNo}
-use Rattle.run.specs.Read.{Verdict, countsOf, ended, more, isEnd, readFrom, readOf}
+use Rattle.run.specs.Judge.{judgeNo, endNo}
+use Rattle.run.specs.Read.{countsOf, ended, more, isEnd, readFrom, readOf}
 use Rattle.run.specs.Read.Verdict.{refused, accepted}
 use Rattle.record.proofs.Laws.{orIf-ok}
-use Rattle.run.proofs.Laws.{HeadOk, head-ok, LineOk, line-ok, StateOk, state-ok, none-lacks, state-there, end-there}
+use Rattle.run.proofs.Laws.{HeadOk, head-ok, line-ok, StateOk, state-ok, none-lacks, end-there}
 use Rattle.run.proofs.Index.{counts-at}
 use Rattle.run.proofs.Here.{stepped, read-refused, read-judged, read-end, read-more, read-short, read-long}
 

@@ -1,5 +1,5 @@
 -- The pass so far: what is left to read from here gives the whole, and the tables hold the states so far.
-use mathlib.Core.Path.{_≡_, refl, sym, ap, _∙_, subst}
+use mathlib.Core.Path.{_≡_, refl, sym, ap, _∙_}
 use mathlib.Core.Logic.{_⊎_, inl, inr, ⊎-elim}
 use mathlib.Core.Bool.{Bool, true, false, cond}
 use mathlib.Core.List.{List, []}
@@ -7,14 +7,13 @@ use Prim.Native.Nat.{ℕ, zero, suc, _+_, _≤_, _<_}
 use native.Mathlib.Omega.{arith}
 use borrow.Author.Tests.{eq-eqb, ne-eqb, eqb-true, lt-ltb, le-ltb}
 use lib.Dec.{eqb, ltb}
-use lib.ListN.{length, replicate, getD}
+use lib.ListN.{length, replicate}
 use Rattle.record.specs.Refusal.{refusal}
-use Rattle.record.specs.Record.{lengthAt, kindAt, lengthOf, headOf, openingNo, stepNo, fieldsAt, recordAt, stepAt}
+use Rattle.record.specs.Record.{lengthAt, headOf, openingNo, stepNo, recordAt, stepAt}
 use Rattle.record.specs.declared.File.the-variants.{Run}
 use Rattle.record.specs.declared.Refusal.{Refusal}
 use Rattle.record.specs.declared.Record.{Record}
 use Rattle.record.specs.declared.Record.the-variants as R
-use Rattle.record.specs.declared.Step.{Step}
 use Rattle.record.specs.declared.Step.the-variants as S
 use Rattle.record.proofs.Laws.{opened, step-opened, by-place}
 use Rattle.run.specs.declared.Reading.{Reading}
@@ -23,7 +22,7 @@ use Rattle.run.specs.Judge.{judgeNo}
 use Rattle.run.specs.Read.{Verdict, countsOf, ended, more, isEnd, readFrom, readOf, reading, Indexed, Passed}
 use Rattle.run.specs.Read.Verdict.{refused, accepted}
 use Rattle.run.specs.Inner.{Roomy, Noted}
-use Rattle.run.proofs.Laws.{HeadOk, head-ok, StateOk, state-ok, state-there}
+use Rattle.run.proofs.Laws.{head-ok, state-ok, state-there}
 use Rattle.run.proofs.Index.{index-more}
 
 -- ---- what a step that gives a record tells

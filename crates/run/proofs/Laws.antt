@@ -1,12 +1,12 @@
 -- What an accepted record tells beside what is known so far.
-use mathlib.Core.Path.{_≡_, refl, sym, ap, _∙_, subst}
+use mathlib.Core.Path.{_≡_, refl, ap, _∙_, subst}
 use mathlib.Core.Logic.{⊎-elim}
-use mathlib.Core.Bool.{Bool, true, false, not, cond, _&&_, _||_}
+use mathlib.Core.Bool.{Bool, true, false, not, _&&_, _||_}
 use mathlib.Core.List.{List}
 use Prim.Native.Nat.{ℕ, zero, suc, _+_, _*_, _≤_, _<_}
 use native.Mathlib.Nat.{eq-or-lt-of-le}
 use native.Mathlib.Omega.{arith}
-use borrow.Author.Tests.{ltb-false, leb-false, eqb-true, eqb-false, eq-eqb, ne-eqb, not-false}
+use borrow.Author.Tests.{ltb-false, leb-false, eqb-true, eqb-false, eq-eqb, not-false}
 use lib.Dec.{eqb, leb, ltb}
 use lib.ListN.{length, getD}
 use Rattle.record.specs.Refusal.{orIf, orElse}
@@ -17,7 +17,7 @@ use Rattle.record.specs.declared.Line.{Line}
 use Rattle.record.specs.declared.Fields.{Fields}
 use Rattle.record.proofs.Laws.{orIf-ok, orElse-ok, orIf-stop, orElse-stop, opened, opened-whole, by-place}
 use Rattle.run.specs.States.{channelAt}
-use Rattle.run.specs.Judge.{headNo, lineNo, nameNo, fieldNo, startNo, sideNo, stateNo, lacks, endNo}
+use Rattle.run.specs.Judge.{headNo, lineNo, nameNo, fieldNo, startNo, sideNo, stateNo, lacks}
 
 -- a test of two halves that doesn't fail
 half : (a b : Bool) → (a && b) ≡ false → a ≡ true → b ≡ false

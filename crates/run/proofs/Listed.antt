@@ -1,23 +1,22 @@
 -- What the pass leaves of an accepted run, in the words of the model: each state by its process and number.
-use mathlib.Core.Path.{_≡_, refl, sym, ap, _∙_, subst}
+use mathlib.Core.Path.{_≡_, sym, ap, _∙_, subst}
 use mathlib.Core.Logic.{⊎-elim}
 use mathlib.Core.List.{List}
 use Prim.Native.Nat.{ℕ, zero, suc, _+_, _-_, _*_, _≤_, _<_}
 use native.Mathlib.Nat.{mul-le-mul-left, mul-suc}
 use native.Mathlib.Omega.{arith}
-use lib.ListN.{length, getD, take}
+use lib.ListN.{length, getD}
 use Rattle.model.specs.Run.{processes, count, state, into, channel, IsState, Sides}
 use Rattle.model.proofs.Lists.{le-or-lt}
 use Rattle.record.specs.Record.{headOf, fieldsAt}
-use Rattle.run.specs.States.{eventOf, stateAt, channelAt, placesOf}
+use Rattle.run.specs.States.{eventOf, channelAt, placesOf}
 use Rattle.run.specs.Read.{readOf}
 use Rattle.run.specs.Read.Verdict.{accepted}
 use Rattle.run.specs.Tables.{statesOf, runIn, placeOf, slot, HasSlot, Placed, Listed}
-use Rattle.run.proofs.Laws.{StateOk}
 use Rattle.run.proofs.Index.{counts-at, counts-length}
-use Rattle.run.proofs.Places.{StandsAt, stands, places-grow}
-use Rattle.run.proofs.Accepted.{size, base, Accepted, run-accepted}
-use Rattle.run.proofs.Sides.{run-processes, run-channels, run-channel, run-count, run-process, run-state, Judged, state-judged, run-sides}
+use Rattle.run.proofs.Places.{stands, places-grow}
+use Rattle.run.proofs.Accepted.{size, Accepted, run-accepted}
+use Rattle.run.proofs.Sides.{run-processes, run-channels, run-channel, run-count, run-process, state-judged, run-sides}
 
 module _ (s : List ℕ) (read : readOf s ≡ accepted (statesOf s)) where
   abbrev qs : List ℕ

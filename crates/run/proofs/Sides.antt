@@ -1,19 +1,16 @@
 -- The run of an accepted file obeys what the model calls known, apart from pairing.
 use mathlib.Core.Path.{_≡_, refl, sym, ap, _∙_, subst}
-use mathlib.Core.Logic.{⊎-elim, _≢_, _↔_}
+use mathlib.Core.Logic.{_↔_}
 use mathlib.Core.Bool.{Bool, true, false, cond}
 use mathlib.Core.List.{List, [], map}
-use Prim.Native.Nat.{ℕ, zero, suc, _+_, _*_, _≤_, _<_}
+use Prim.Native.Nat.{ℕ, zero, suc, _<_}
 use native.Mathlib.Omega.{arith}
 use borrow.Author.Tests.{eqb-true, eqb-false}
 use lib.Dec.{eqb}
 use lib.ListN.{length, getD, take, length-map}
 use Rattle.model.specs.declared.Message.{Message}
-use Rattle.model.specs.declared.Channel.{Channel}
-use Rattle.model.specs.declared.Event.{Event}
 use Rattle.model.specs.declared.Event.the-variants.{Start, Internal, Send, Receive}
-use Rattle.model.specs.Run.{Run, State, noState, nth, processes, history, count, state, into, channel, IsState, Sides}
-use Rattle.model.proofs.Lists.{le-or-lt}
+use Rattle.model.specs.Run.{noState, processes, history, count, state, into, channel, IsState, Sides}
 use Rattle.model.proofs.Pairing.{process-there, sent-there, received-there}
 use Rattle.record.specs.Record.{headOf, fieldsAt}
 use Rattle.record.specs.declared.Fields.{Fields}
@@ -21,7 +18,7 @@ use Rattle.run.specs.States.{messageOf, eventOf, stateAt, channelAt, pla
 use Rattle.run.proofs.Laws.{StateOk}
 use Rattle.run.proofs.Tabulate.{tabulate-length, tabulate-at, map-at}
 use Rattle.run.proofs.Places.{StandsAt, stands}
-use Rattle.run.proofs.Accepted.{ChannelOk, RecordOk, Accepted}
+use Rattle.run.proofs.Accepted.{Accepted}
 
 module _ (s qs : List ℕ) where
   -- ---- the run's parts

@@ -1,5 +1,5 @@
 -- Which refusal a record of a run gets, 0 where it gets none, beside the number of states of each process so far: each chain has the paper's tests in the paper's order.
-use mathlib.Core.Bool.{Bool, true, false, not, cond, _&&_, _||_}
+use mathlib.Core.Bool.{Bool, false, not, cond, _&&_, _||_}
 use mathlib.Core.List.{List}
 use Prim.Native.Nat.{ℕ, zero, suc, _+_, _*_}
 use lib.Dec.{ltb, leb, eqb}

@@ -15,9 +15,9 @@ use record::reasons::or_if;
 ghost use mathlib.Core.Path.{_≡_};
 ghost use mathlib.Core.Logic.{_⊎_};
 ghost use Prim.Native.Nat.{_+_, _*_, _≤_, _<_};
-ghost use lib.ListN.{length, getD};
+ghost use lib.ListN.{length};
 ghost use Rattle.record.specs.Record.{headOf, openingNo, recordAt};
-ghost use Rattle.run.specs.Judge.{headNo, lineNo, nameNo, fieldNo, startNo, sideNo, stateNo, lacks, endNo, judgeNo};
+ghost use Rattle.run.specs.Judge.{headNo, lineNo, nameNo, fieldNo, startNo, sideNo, stateNo, lacks, judgeNo};
 
 // 5: the numbers of processes and channels.
 pub fn head_no(head: Head) -> u16

@@ -8,11 +8,11 @@ ghost use Rattle.model.specs.Run.{into, IsState};
 ghost use Rattle.run.specs.Tables.{runIn, slot, HasSlot, Placed};
 
 // The state's entry.
-pub fn slot_of(p: usize, k: u16) -> usize
+pub fn slot_of(p: u16, k: u16) -> usize
     requires { ⌜ HasSlot p k ⌝ }
     ensures { λ r. ⌜ (r ≡ slot p k) × (r < 4096) ⌝ }
 {
-    512 * p + (k as usize - 1)
+    512 * (p as usize) + (k - 1) as usize
 }
 
 // The byte place of its record.
@@ -20,7 +20,7 @@ pub fn place_of(places: &[u16], p: u16, k: u16) -> usize
     requires { ⌜ (length (now places) ≡ 4096) × HasSlot p k ⌝ }
     ensures { λ r. ⌜ r ≡ getD (now (places .entry)) (slot p k) 0 ⌝ }
 {
-    let slot = slot_of(p as usize, k);
+    let slot = slot_of(p, k);
     places[slot] as usize
 }
 

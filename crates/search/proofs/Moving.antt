@@ -1,10 +1,8 @@
 -- Who is named has to move; and the cut of the elimination is at or below every satisfying cut.
-use mathlib.Core.Path.{_≡_, refl, sym, ap, _∙_, subst}
-use mathlib.Core.Logic.{⊎-elim}
+use mathlib.Core.Path.{_≡_, refl, sym, _∙_, subst}
 use mathlib.Core.Bool.{Bool, true, false, not}
 use mathlib.Core.List.{List, [], _∷_, map, List·Memᴰ, List·Memᴰ·head, List·Memᴰ·tail, List·Memᴰ·not-nil}
 use Prim.Native.Nat.{ℕ, zero, suc, _+_, _-_, _*_, _≤_, _<_}
-use native.Mathlib.Nat.{eq-or-lt-of-le}
 use native.Mathlib.Decide.{ℕ-discrete}
 use native.Mathlib.Numerals.{add-one}
 use native.Mathlib.Omega.{arith}
@@ -12,21 +10,21 @@ use lib.Dec.{T}
 use lib.ListN.{length, getD, set, replicate, length-set}
 use lib.Seq.{getD-set-same, getD-set-other}
 use Rattle.model.specs.Run.{Run, processes, count, IsState}
-use Rattle.model.specs.Cut.{at, IsCut, ByClock, Clocks}
-use Rattle.model.specs.Clause.{Clause, holds, Linear, Satisfies, First}
+use Rattle.model.specs.Cut.{at, IsCut}
+use Rattle.model.specs.Clause.{Clause, holds, Linear, Satisfies}
 use Rattle.model.proofs.Search.{Under, Moves, move-on, run-out, arrive, clock-moves, ones-cut, ones-under, all-tested}
 use Rattle.record.specs.Record.{headOf}
-use Rattle.run.specs.Tables.{runIn, clockIn, Tables, Listed}
+use Rattle.run.specs.Tables.{runIn, clockIn, Listed}
 use Rattle.run.proofs.Listed.{ok, processes-are, listed-count, listed-eight}
 use Rattle.condition.specs.Clauses.{clauseAt, clausesOf}
 use Rattle.condition.specs.Read.{placesIn, readOf, clausesIn}
-use Rattle.condition.specs.Known.{ClauseKnown, Known}
+use Rattle.condition.specs.Known.{ClauseKnown}
 use Rattle.condition.proofs.Accepted.{condition-known, condition-linear}
 use Rattle.cut.specs.declared.Behind.{Behind}
 use Rattle.cut.specs.declared.Behind.the-variants.{Nobody, Process}
 use Rattle.cut.specs.Lent.{Lent}
 use Rattle.cut.specs.Clocks.{tooLow, InTable}
-use Rattle.cut.proofs.Low.{Low, too-low-found, nobody-by-clock, cut-in-table}
+use Rattle.cut.proofs.Low.{too-low-found, nobody-by-clock, cut-in-table}
 use Rattle.search.specs.declared.Answer.the-variants as A
 use Rattle.search.specs.Search.{Given, clausesFor, Tested, isLocal, Tried, KindTested, Lowest, MustMove, Moved, Searched}
 use Rattle.search.specs.Search.Tried.{tested, passed}

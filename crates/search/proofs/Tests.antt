@@ -1,24 +1,20 @@
 -- A clause at a cut: true, or who has to move.
 use mathlib.Core.Path.{_≡_, refl, sym, ap, _∙_, subst}
-use mathlib.Core.Logic.{⊎-elim}
 use mathlib.Core.Bool.{Bool, true, false, cond}
 use mathlib.Core.List.{List, List·Memᴰ}
 use Prim.Native.Nat.{ℕ, zero, suc, _≤_, _<_}
 use native.Mathlib.Omega.{arith}
-use lib.Dec.{T, eqb, ltb}
+use lib.Dec.{T, ltb}
 use lib.IntN.{ℤ, pos}
 use lib.ListN.{length, getD}
 use Rattle.model.specs.declared.Channel.{Channel}
 use Rattle.model.specs.declared.Message.{Message}
-use Rattle.model.specs.declared.Mover.{Mover}
 use Rattle.model.specs.declared.Mover.the-variants.{Sender, Receiver, NotLinear}
-use Rattle.model.specs.Run.{Run, processes, count, state, channel, IsState}
-use Rattle.model.specs.Cut.{at, IsCut, between, inTransit}
-use Rattle.model.specs.Clause.{Comparison, compares, Test, passes, mover, linear, Clause, holds, Linear}
+use Rattle.model.specs.Run.{Run, processes, count, state, channel}
+use Rattle.model.specs.Cut.{at, between, inTransit}
+use Rattle.model.specs.Clause.{Comparison, compares, passes, mover, linear, Clause, holds, Linear}
 use Rattle.model.specs.Clause.Clause.{local, on}
-use Rattle.model.specs.Clause.Test.{countAtMost, countAtLeast, countIs, stampIs, noStampIs, everyAtLeast, someAtMost, countOdd, countOther}
 use Rattle.model.proofs.Search.{Under, Moves, local-moves, sender-moves, receiver-moves}
-use Rattle.record.specs.Bytes.{signed}
 use Rattle.record.specs.Record.{headOf}
 use Rattle.run.specs.States.{channelAt}
 use Rattle.run.specs.Read.{readOf}

@@ -8,7 +8,7 @@ use lib.IntN.{ℤ}
 use lib.ListN.{length, getD}
 use Rattle.model.specs.declared.Mover.the-variants.{Sender, Receiver}
 use Rattle.model.specs.Run.{Run, processes, channel}
-use Rattle.model.specs.Cut.{at, IsCut, ByClock, inTransit}
+use Rattle.model.specs.Cut.{at, ByClock, inTransit}
 use Rattle.model.specs.Clause.{Comparison, Test, mover, Clause, holds, Satisfies, First}
 use Rattle.model.specs.Clause.Clause.{local, on}
 use Rattle.record.specs.Record.{headOf}

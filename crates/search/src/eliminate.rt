@@ -3,7 +3,7 @@ use crate::Answer;
 use crate::movers::first_mover;
 use cut::Behind;
 ghost use mathlib.Core.Path.{_≡_};
-ghost use lib.ListN.{length, replicate};
+ghost use lib.ListN.{replicate};
 ghost use Rattle.model.specs.Run.{processes};
 ghost use Rattle.run.specs.Tables.{runIn};
 ghost use Rattle.search.specs.Search.{Given, Searched};

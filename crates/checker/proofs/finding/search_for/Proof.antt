@@ -1,10 +1,9 @@
 use borrow.Author.Needs.{needs}
 use native.Mathlib.Omega.{arith}
-use mathlib.Core.Path.{_≡_, refl, sym, ap, _∙_, subst}
+use mathlib.Core.Path.{refl, sym, ap, _∙_}
 use Prim.Native.Nat.{_≤_}
 use lib.ListN.{length, take, replicate, length-replicate}
 use Rattle.model.specs.Run.{processes}
-use Rattle.run.specs.Tables.{runIn}
 use Rattle.run.proofs.Listed.{ok, processes-are}
 use Rattle.checker.specs.Answered.Answered.{few}
 use Rattle.checker.proofs.Parts.{take-replicate}

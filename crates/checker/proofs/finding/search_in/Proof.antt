@@ -1,7 +1,7 @@
 use borrow.Author.Needs.{needs}
 use native.Mathlib.Omega.{arith}
-use mathlib.Core.Path.{_≡_, refl, sym, ap, _∙_, subst}
-use Rattle.run.proofs.Listed.{ok, processes-are}
+use mathlib.Core.Path.{refl}
+use Rattle.run.proofs.Listed.{processes-are}
 use Rattle.checker.specs.Answered.Answered.{nowhere, tooEarly, found}
 use Rattle.checker.proofs.Parts.{searched-found, searched-nowhere}
 use Rattle.checker.proofs.finding.search_in.Statement.{statement}

@@ -1,6 +1,6 @@
 use native.Mathlib.Omega.{arith}
-use mathlib.Core.Path.{_≡_, refl, sym, ap, _∙_, subst}
-use Prim.Native.Nat.{ℕ, _≤_, _<_, _-_, zero-le}
+use mathlib.Core.Path.{_≡_}
+use Prim.Native.Nat.{_≤_, _-_, zero-le}
 use Rattle.judging.specs.Judged.{Earliest}
 use Rattle.judging.proofs.Firsts.{earliest-start}
 use Rattle.judging.proofs.faults.earliest.Statement.{statement}

@@ -23,25 +23,27 @@ channel-at-requires c κs =
 
 slot-of-requires : tie.Need-slot-of-requires
 slot-of-requires c κs =
-    let r = c .before .before .before .before .before .before .before .before .before .before .before .before .pre in
+    let r = c .before .before .before .before .before .before .before .before .before .before .before .pre in
     let s = sides _ (r .0 .read) in
-    let from = ap (λ x. x .from) (c .before .channel-at .ensures ∙ channel-same _ (r .0 .read) _ (s .receiver _ _ _ (r .4) .0)) in
-    rw from (placed-slot _ _ (listed-places (r .0)) (found-in _ s _ _ _ (r .4) _ (c .before .before .if1 .left) (c .before .before .before .before .before .send-of .ensures)))
+    let from = ap (λ x. x .from) (c .channel-at .ensures ∙ channel-same _ (r .0 .read) _ (s .receiver _ _ _ (r .4) .0)) in
+    rw from (placed-slot _ _ (listed-places (r .0)) (found-in _ s _ _ _ (r .4) _ (c .before .if1 .left) (c .before .before .before .before .send-of .ensures)))
 
 slot-of-requires-2 : tie.Need-slot-of-requires-2
-slot-of-requires-2 c κs = let r = c .before .before .before .before .before .before .before .before .before .before .before .before .before .pre in placed-slot _ _ (listed-places (r .0)) (r .3)
+slot-of-requires-2 c κs =
+    let r = c .before .before .before .before .before .before .before .before .before .before .before .before .pre in
+    placed-slot _ _ (listed-places (r .0)) (r .3)
 
 returns-2 : tie.Need-returns-2
 returns-2 c =
-    let r = c .before .before .before .before .before .before .before .before .before .before .before .before .before .before .pre in
+    let r = c .before .before .before .before .before .before .before .before .before .before .before .before .before .pre in
     let s = sides _ (r .0 .read) in
-    let from = ap (λ x. x .from) (c .before .before .before .channel-at .ensures ∙ channel-same _ (r .0 .read) _ (s .receiver _ _ _ (r .4) .0)) in
+    let from = ap (λ x. x .from) (c .before .before .channel-at .ensures ∙ channel-same _ (r .0 .read) _ (s .receiver _ _ _ (r .4) .0)) in
     rw (c .slot-of2 .ensures .0, c .before .slot-of .ensures .0, from)
-    (received-one _ s _ _ _ (r .4) _ _ (c .before .before .before .before .if1 .left) (c .before .before .before .before .before .before .before .send-of .ensures))
+    (received-one _ s _ _ _ (r .4) _ _ (c .before .before .before .if1 .left) (c .before .before .before .before .before .before .send-of .ensures))
 
 pub enter-spec : {M : Type 1} → statement M
 enter-spec =
     tie.close (tie.spec
-    send-of-requires (λ c. search needs) returns channel-at-requires (λ c. search needs) slot-of-requires
-    slot-of-requires-2 (λ c. search needs) (λ c. search needs) (λ c. search needs) (λ c. search needs)
-    (λ c. search needs) (λ c. search needs) returns-2)
+    send-of-requires (λ c. search needs) returns channel-at-requires slot-of-requires slot-of-requires-2
+    (λ c. search needs) (λ c. search needs) (λ c. search needs) (λ c. search needs) (λ c. search needs)
+    (λ c. search needs) returns-2)

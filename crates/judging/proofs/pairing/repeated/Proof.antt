@@ -1,8 +1,5 @@
 use borrow.Author.Needs.{needs}
 use native.Mathlib.Omega.{arith}
-use mathlib.Core.Path.{_≡_, sym, ap, _∙_, subst}
-use Prim.Native.Nat.{ℕ, _≤_, _<_}
-use lib.ListN.{getD}
 use Rattle.judging.specs.Pairing.{entry}
 use Rattle.judging.proofs.Pairs.{entry-less, repeats-raised, repeats-found}
 use Rattle.run.proofs.Listed.{process-of}

@@ -1,12 +1,8 @@
 use borrow.Author.Needs.{needs}
 use native.Mathlib.Omega.{arith}
-use mathlib.Core.Path.{_≡_, refl, sym, ap, _∙_, subst}
-use Prim.Native.Nat.{ℕ, _≤_, _<_}
-use lib.ListN.{getD}
+use mathlib.Core.Path.{refl}
+use Prim.Native.Nat.{_<_}
 use Rattle.record.specs.Record.{headOf}
-use Rattle.judging.specs.Judged.{Earliest}
-use Rattle.judging.specs.Inner.{Undone}
-use Rattle.judging.proofs.Firsts.{Firsts}
 use Rattle.run.proofs.Listed.{ok, placed-few, listed-places, listed-count, listed-eight}
 use Rattle.judging.proofs.Verdicts.{circle-firsts, circle-judged}
 use Rattle.judging.proofs.whole.first_circular.Statement.{statement}

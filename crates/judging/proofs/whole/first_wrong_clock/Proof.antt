@@ -1,5 +1,4 @@
 use borrow.Author.Needs.{needs}
-use mathlib.Core.Path.{_≡_, refl, sym, ap, _∙_, subst}
 use Rattle.run.proofs.Listed.{listed-places}
 use Rattle.judging.proofs.Orders.{firsts-all}
 use Rattle.judging.proofs.Verdicts.{clock-judged}

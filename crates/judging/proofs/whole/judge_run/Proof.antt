@@ -1,5 +1,5 @@
 use borrow.Author.Needs.{needs}
-use mathlib.Core.Path.{_≡_, refl, sym, ap, _∙_, subst}
+use mathlib.Core.Path.{_∙_}
 use Rattle.judging.specs.Judged.Judged.{byPass}
 use Rattle.judging.proofs.Verdicts.{refused-by-pass, listed-by-pass}
 use Rattle.judging.proofs.whole.judge_run.Statement.{statement}

@@ -6,10 +6,6 @@ use Rattle.record.specs.Bytes.{signed}
 use borrow.Author.Needs.{needs}
 use Rattle.record.proofs.bytes.i32_at.Statement.{statement}
 use Rattle.record.proofs.bytes.i32_at.Tie as tie
-use Rattle.record.proofs.bytes.i32_at.Reads as reads
-use Rattle.record.proofs.bytes.i32_at.Lts as lts
-use Rattle.record.proofs.bytes.signed_of.Reads as signed-of-reads
-use Rattle.record.proofs.bytes.u32_at.Reads as u32-at-reads
 
 -- src/lib.rt:35:15
 u32-at-requires : tie.Need-u32-at-requires

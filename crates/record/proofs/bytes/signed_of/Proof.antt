@@ -2,15 +2,11 @@ use Rattle.record.specs.Bytes.{signed}
 use borrow.Author.Needs.{needs}
 use borrow.Author.Tests.{lt-ltb, le-ltb}
 use native.Mathlib.Omega.{arith}
-use Prim.Native.Nat.{ℕ, _-_, _^_, suc}
+use Prim.Native.Nat.{_-_}
 use mathlib.Core.Path.{_≡_, ap}
-use lib.IntN.{ℤ, pos, negsuc}
-use mir.Syntax.{w32}
-use mir.Val.{toZ}
+use lib.IntN.{negsuc}
 use Rattle.record.proofs.bytes.signed_of.Statement.{statement}
 use Rattle.record.proofs.bytes.signed_of.Tie as tie
-use Rattle.record.proofs.bytes.signed_of.Reads as reads
-use Rattle.record.proofs.bytes.signed_of.Lts as lts
 
 cast-result : tie.Need-cast-result
 cast-result c = search needs

@@ -2,9 +2,6 @@ use Rattle.record.specs.Bytes.{u16At}
 use borrow.Author.Needs.{needs}
 use Rattle.record.proofs.bytes.u16_at.Statement.{statement}
 use Rattle.record.proofs.bytes.u16_at.Tie as tie
-use Rattle.record.proofs.bytes.u16_at.Reads as reads
-use Rattle.record.proofs.bytes.u16_at.Lts as lts
-use Rattle.record.proofs.bytes.wide.Reads as wide-reads
 
 -- src/bytes.rt:17:10
 shared-slice-read-wide : tie.Need-shared-slice-read-wide

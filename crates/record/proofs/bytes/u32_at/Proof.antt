@@ -2,9 +2,6 @@ use Rattle.record.specs.Bytes.{u32At}
 use borrow.Author.Needs.{needs}
 use Rattle.record.proofs.bytes.u32_at.Statement.{statement}
 use Rattle.record.proofs.bytes.u32_at.Tie as tie
-use Rattle.record.proofs.bytes.u32_at.Reads as reads
-use Rattle.record.proofs.bytes.u32_at.Lts as lts
-use Rattle.record.proofs.bytes.u16_at.Reads as u16-at-reads
 
 -- src/bytes.rt:24:6
 u16-at-requires : tie.Need-u16-at-requires

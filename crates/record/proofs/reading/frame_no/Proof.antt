@@ -1,6 +1,6 @@
 use borrow.Author.Needs.{needs}
 use native.Mathlib.Omega.{arith}
-use mathlib.Core.Path.{sym, _∙_}
+use mathlib.Core.Path.{sym}
 use Rattle.record.proofs.Laws.{frame-short, frame-rest}
 use Rattle.record.proofs.reading.frame_no.Statement.{statement}
 use Rattle.record.proofs.reading.frame_no.Tie as tie

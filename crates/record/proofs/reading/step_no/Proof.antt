@@ -1,7 +1,7 @@
 use borrow.Author.Needs.{needs}
 use native.Mathlib.Omega.{arith}
 use mathlib.Core.Path.{sym, _∙_}
-use borrow.Author.Tests.{eq-eqb, ne-eqb}
+use borrow.Author.Tests.{ne-eqb}
 use Rattle.record.specs.Record.{lengthOf, stepNo}
 use Rattle.record.specs.Refusal.{orIf}
 use Rattle.record.proofs.Laws.{opened, opened-whole, step-stop}

@@ -1,10 +1,10 @@
 use borrow.Author.Needs.{needs}
 use native.Mathlib.Omega.{arith}
-use mathlib.Core.Path.{_≡_, refl, sym, ap, _∙_}
+use mathlib.Core.Path.{sym, _∙_}
 use mathlib.Core.Logic.{⊎-elim}
 use Prim.Native.Nat.{_≤_}
 use Rattle.record.specs.Record.{headOf}
-use Rattle.run.specs.Judge.{judgeNo, endNo}
+use Rattle.run.specs.Judge.{endNo}
 use Rattle.run.proofs.Laws.{state-there, end-there}
 use Rattle.run.proofs.judge.judge_no.Statement.{statement}
 use Rattle.run.proofs.judge.judge_no.Tie as tie

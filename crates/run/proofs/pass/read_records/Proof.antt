@@ -1,7 +1,7 @@
 use borrow.Author.Needs.{needs}
 use native.Mathlib.Omega.{arith}
-use mathlib.Core.Path.{_≡_, refl, sym, ap, _∙_}
-use Prim.Native.Nat.{ℕ, _≤_, _-_, zero-le}
+use mathlib.Core.Path.{_≡_, sym, ap, _∙_}
+use Prim.Native.Nat.{_≤_, _-_, zero-le}
 use lib.ListN.{length}
 use Rattle.run.specs.Inner.{handUp}
 use Rattle.run.proofs.Here.{Here, stepped, here-start, here-refused, here-judged, here-end, here-more, here-roomy, here-opened, passed-refused, passed-end}

@@ -1,5 +1,5 @@
 use borrow.Author.Needs.{needs}
-use mathlib.Core.Path.{_≡_, refl, sym, ap, _∙_}
+use mathlib.Core.Path.{ap, _∙_}
 use lib.ListN.{replicate}
 use Rattle.run.proofs.Here.{passed-refused, read-long, read-short}
 use Rattle.run.proofs.pass.read_run.Statement.{statement}

@@ -4,7 +4,6 @@ use lib.IntN.{ℤ}
 use borrow.Author.Needs.{sfits-of}
 use mir.Facts.{toZ-ofZ}
 use mir.Syntax.{w32}
-use Rattle.model.specs.declared.Message.{Message}
 use Rattle.run.specs.States.{messageOf}
 use Rattle.run.proofs.states.message_of.Statement.{statement}
 use Rattle.run.proofs.states.message_of.Tie as tie

@@ -1,11 +1,10 @@
 use borrow.Author.Needs.{needs}
 use native.Mathlib.Omega.{arith}
-use mathlib.Core.Path.{_≡_, refl, sym, ap, _∙_, subst}
+use mathlib.Core.Path.{_≡_, sym, _∙_}
 use Prim.Native.Nat.{_<_}
 use Rattle.model.specs.Run.{processes}
 use Rattle.run.specs.Tables.{runIn}
 use Rattle.run.proofs.Listed.{processes-are}
-use lib.IntN.{ℤ}
 use mir.Syntax.{w32}
 use mir.Val.{toZ, ofZ}
 use Rattle.search.proofs.Tests.{local-true, local-false}

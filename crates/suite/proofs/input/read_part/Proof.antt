@@ -1,7 +1,7 @@
 use borrow.Author.Needs.{needs}
 use Prim.Native.Nat.{ℕ, _≤_}
 use native.Mathlib.Omega.{arith}
-use mathlib.Core.Path.{sym, _∙_}
+use mathlib.Core.Path.{sym}
 use mathlib.Core.List.{List, _++_}
 use lib.ListN.{length, drop, length-append}
 use lib.Seq.{length-take-le}
