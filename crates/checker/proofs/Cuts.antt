@@ -14,7 +14,8 @@ use Rattle.model.specs.Run.{processes, channel}
 use Rattle.model.specs.Cut.{at, IsCut, add, upTo, waiting, between, inTransit}
 use Rattle.record.specs.Record.{headOf}
 use Rattle.record.specs.declared.Head.{Head}
-use Rattle.run.specs.Tables.{runIn, Listed, Tables}
+use Rattle.run.specs.Said.{runIn}
+use Rattle.run.specs.Tables.{Listed, Tables}
 use Rattle.run.proofs.Listed.{ok, processes-are, channels-are, placed-few, listed-places, listed-count}
 use Rattle.cut.specs.Clocks.{InTable}
 use Rattle.cut.proofs.Stored.{states-few}

@@ -22,7 +22,7 @@ use Rattle.record.specs.declared.File.the-variants.{Run}
 use Rattle.record.specs.declared.Head.{Head}
 use Rattle.record.specs.declared.Refusal.{Refusal}
 use Rattle.run.specs.declared.Reading.the-variants as R
-use Rattle.run.specs.Tables.{runIn}
+use Rattle.run.specs.Said.{runIn}
 use Rattle.run.proofs.Listed.{processes-are, channels-are}
 use Rattle.judging.specs.Judged.{Judged}
 use Rattle.condition.specs.Read.{placesIn, readOf, clausesIn}

@@ -26,7 +26,7 @@ use Rattle.run.specs.States.{messageOf, eventOf, stateAt, channelAt, placesOf, 
 use Rattle.run.specs.Judge.{headNo, lineNo, nameNo, fieldNo, startNo, sideNo, stateNo, lacks, endNo}
 use Rattle.run.specs.Read.{countsOf, ended, readFrom, readOf}
 use Rattle.run.specs.Read.Verdict.{accepted}
-use Rattle.run.specs.Tables.{statesOf, runIn, placeOf}
+use Rattle.run.specs.Said.{statesOf, runIn, placeOf}
 use Rattle.judging.specs.Judged.{Circular, WrongClock, Nowhere, Judged}
 use Rattle.judging.specs.Judged.Judged.{byClock, wholly}
 use Rattle.run.specs.declared.Reading.the-variants as R

@@ -8,8 +8,10 @@ use Rattle.model.specs.Clause.{Satisfies, First}
 use Rattle.record.specs.Record.{headOf}
 use Rattle.record.specs.declared.Head.{Head}
 use Rattle.record.specs.declared.Refusal.{Refusal}
-use Rattle.run.specs.Tables.{runIn, Listed, Tables}
-use Rattle.judging.specs.Judged.{Judged, Ready}
+use Rattle.run.specs.Said.{runIn}
+use Rattle.run.specs.Tables.{Listed, Tables}
+use Rattle.judging.specs.Judged.{Judged}
+use Rattle.judging.specs.Inner.{Ready}
 use Rattle.judging.specs.Judged.Judged.{byPass, byPairing, byCircle, byClock, wholly}
 use Rattle.run.specs.declared.Reading.{Reading}
 use Rattle.run.specs.declared.Reading.the-variants as R

@@ -9,7 +9,7 @@ use lib.ListN.{length, getD, set, length-set}
 use lib.Seq.{getD-set-same, getD-set-other}
 use Rattle.model.specs.Cut.{at, inTransit}
 use Rattle.record.specs.Record.{headOf}
-use Rattle.run.specs.Tables.{runIn}
+use Rattle.run.specs.Said.{runIn}
 use Rattle.run.proofs.Tabulate.{tabulate-length, tabulate-at}
 use Rattle.checker.specs.Answered.{Wrote}
 use Rattle.checker.specs.Questions.{onEach}

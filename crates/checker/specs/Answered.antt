@@ -10,7 +10,7 @@ use Rattle.record.specs.Refusal.{number, refusal}
 use Rattle.record.specs.Refusal.Reason.{noRoom, early}
 use Rattle.record.specs.declared.File.the-variants.{Run}
 use Rattle.record.specs.declared.Refusal.{Refusal}
-use Rattle.run.specs.Tables.{runIn}
+use Rattle.run.specs.Said.{runIn}
 use Rattle.judging.specs.Judged.{Judged}
 use Rattle.run.specs.declared.Reading.the-variants as R
 use Rattle.condition.specs.Read.{readOf}

@@ -12,7 +12,7 @@ use Rattle.record.specs.declared.Refusal.{Refusal}
 use Rattle.run.specs.declared.Reading.the-variants as R
 use Rattle.judging.specs.Judged.{Judged}
 use Rattle.run.specs.States.{tabulate}
-use Rattle.run.specs.Tables.{runIn}
+use Rattle.run.specs.Said.{runIn}
 use Rattle.condition.specs.Read.{readOf}
 use Rattle.condition.specs.Read.Verdict.{refused}
 use Rattle.search.specs.Search.{clausesFor}

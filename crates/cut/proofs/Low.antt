@@ -12,7 +12,8 @@ use Rattle.model.specs.Run.{Run}
 use Rattle.model.specs.Cut.{at, IsCut, Clocks, ByClock, Consistent}
 use Rattle.model.proofs.Lists.{le-or-lt}
 use Rattle.model.proofs.Order.{consistent-by-clock}
-use Rattle.run.specs.Tables.{runIn, Tables}
+use Rattle.run.specs.Said.{runIn}
+use Rattle.run.specs.Tables.{Tables}
 use Rattle.cut.specs.declared.Behind.the-variants.{Nobody, Process}
 use Rattle.cut.specs.Clocks.{ifBehind, behindOf, tooLow, InTable}
 use Rattle.cut.proofs.First.{first-nobody, first-found}

@@ -8,7 +8,8 @@ use lib.ListN.{length, getD}
 use Rattle.model.specs.Run.{state, processes, count, IsState}
 use Rattle.record.specs.Bytes.{i32At}
 use Rattle.run.specs.States.{stateAt, placesOf}
-use Rattle.run.specs.Tables.{statesOf, runIn, slot, Tables}
+use Rattle.run.specs.Said.{statesOf, runIn}
+use Rattle.run.specs.Tables.{slot, Tables}
 use Rattle.run.proofs.Accepted.{run-accepted}
 use Rattle.run.proofs.Sides.{run-processes, run-count, run-process, run-state, state-judged}
 

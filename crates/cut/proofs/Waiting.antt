@@ -16,7 +16,8 @@ use Rattle.model.specs.Cut.{onChannel, sends, waiting, add, between}
 use Rattle.model.proofs.Messages.{arrived, arrived-at, at-arrived, sends-send}
 use Rattle.record.specs.Record.{fieldsAt}
 use Rattle.run.specs.States.{stateAt, eventOf}
-use Rattle.run.specs.Tables.{runIn, slot, Partnered, Tables}
+use Rattle.run.specs.Said.{runIn}
+use Rattle.run.specs.Tables.{slot, Partnered, Tables}
 use Rattle.cut.specs.declared.Tally.{Tally}
 use Rattle.cut.specs.Tally.{countOf, tallyOf}
 use Rattle.cut.proofs.Stored.{stored}

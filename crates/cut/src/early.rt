@@ -6,7 +6,7 @@ use run::states::channel_at;
 ghost use Prim.Native.Nat.{_<_};
 ghost use Rattle.model.specs.Run.{IsState, processes};
 ghost use Rattle.model.specs.Cut.{IsCut};
-ghost use Rattle.run.specs.Tables.{runIn};
+ghost use Rattle.run.specs.Said.{runIn};
 ghost use Rattle.cut.specs.Early.{PastIs, EarlyInIs, EarlyIs};
 ghost use Rattle.cut.specs.Lent.{Lent};
 

@@ -8,7 +8,7 @@ ghost use lib.IntN.{pos};
 ghost use lib.ListN.{getD};
 ghost use Rattle.model.specs.Run.{state, IsState};
 ghost use Rattle.model.specs.Clause as M;
-ghost use Rattle.run.specs.Tables.{runIn};
+ghost use Rattle.run.specs.Said.{runIn};
 ghost use Rattle.condition.specs.Clauses.{comparisonOf};
 ghost use Rattle.cut.specs.Lent.{Placed};
 

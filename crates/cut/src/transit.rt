@@ -14,7 +14,7 @@ ghost use Rattle.model.specs.Run.{count, sending};
 ghost use Rattle.model.specs.Cut.{add, onChannel, between};
 ghost use Rattle.record.specs.Record.{fieldsAt};
 ghost use Rattle.run.specs.States.{eventOf};
-ghost use Rattle.run.specs.Tables.{runIn};
+ghost use Rattle.run.specs.Said.{runIn};
 ghost use Rattle.condition.specs.Clauses.{comparisonOf};
 ghost use Rattle.cut.specs.Tally.{stamped, tallyOf, asked};
 ghost use Rattle.cut.specs.Lent.{Lent};

@@ -17,7 +17,7 @@ use Rattle.run.specs.declared.Reading.{Reading}
 use Rattle.run.specs.declared.Reading.the-variants.{Accepted}
 use Rattle.run.specs.Read.{readOf}
 use Rattle.run.specs.Read.Verdict.{accepted}
-use Rattle.run.specs.Tables.{statesOf, runIn}
+use Rattle.run.specs.Said.{statesOf, runIn}
 use Rattle.judging.specs.Judged.{Judged, Unpaired, Nowhere}
 use Rattle.judging.specs.Judged.Judged.{byPass, byPairing, byCircle, byClock, wholly}
 use Rattle.judging.specs.Judged.Unpaired.{secondSend, secondReceive, noSend}

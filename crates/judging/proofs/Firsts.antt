@@ -17,9 +17,10 @@ use Rattle.judging.specs.declared.First.{First}
 use Rattle.judging.specs.declared.First.the-variants.{Nothing, At}
 use Rattle.run.specs.Read.{readOf}
 use Rattle.run.specs.Read.Verdict.{accepted}
-use Rattle.run.specs.Tables.{statesOf, runIn, placeOf}
-use Rattle.judging.specs.Judged.{FirstAt, Nowhere, Earliest, lowerOf}
-use Rattle.judging.specs.Judged.Earliest.{nowhere, at}
+use Rattle.run.specs.Said.{statesOf, runIn, placeOf}
+use Rattle.judging.specs.Judged.{FirstAt, Nowhere}
+use Rattle.judging.specs.Inner.{Earliest, lowerOf}
+use Rattle.judging.specs.Inner.Earliest.{nowhere, at}
 use Rattle.run.proofs.Listed.{process-of, place-rises}
 
 module _ (s bad : List ℕ) where

@@ -23,7 +23,8 @@ use Rattle.model.proofs.Circle.{Direct, clear, waiting-circle}
 use Rattle.model.proofs.Clock.{clock-own, clock-first, clock-step, clock-receive}
 use Rattle.record.specs.Bytes.{u16At}
 use Rattle.record.specs.Record.{headOf}
-use Rattle.run.specs.Tables.{runIn, placeOf, slot, clockIn, Partnered}
+use Rattle.run.specs.Said.{runIn, placeOf}
+use Rattle.run.specs.Tables.{slot, clockIn, Partnered}
 use Rattle.judging.specs.Order.{AheadIs, numberAt, numberOf, Written, Sound, Waits, Advanced, total, Swept, Ordered, Compared, FirstOf, FirstsTo}
 use Rattle.judging.specs.Order.AheadIs.{nothing, sent}
 use Rattle.judging.proofs.Firsts.{Firsts}

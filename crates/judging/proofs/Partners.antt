@@ -16,7 +16,8 @@ use Rattle.model.specs.Run.{Run, state, into, count, channel, IsState, Paired}
 use Rattle.model.proofs.Lists.{le-or-lt}
 use Rattle.model.proofs.Pairing.{view, sent-there, received-there}
 use Rattle.run.specs.States.{channelAt}
-use Rattle.run.specs.Tables.{runIn, slot, Listed}
+use Rattle.run.specs.Said.{runIn}
+use Rattle.run.specs.Tables.{slot, Listed}
 use Rattle.record.specs.Record.{headOf}
 use Rattle.run.proofs.Listed.{ok, channel-is, process-of, placed-eight, placed-few, listed-places, listed-count, listed-eight}
 use Rattle.judging.specs.Pairing.{which, Rising, Clear, Faulty, Backed, Met, Entered, Settled, Row, Rows}

@@ -26,16 +26,19 @@ use Rattle.record.specs.declared.Head.{Head}
 use Rattle.record.specs.declared.Refusal.{Refusal}
 use Rattle.run.specs.declared.Reading.{Reading}
 use Rattle.run.specs.declared.Reading.the-variants.{Accepted, Refused}
-use Rattle.run.specs.Read.{Verdict, readOf, reading, Passed}
+use Rattle.run.specs.Read.{Verdict, readOf}
+use Rattle.run.specs.Inner.{reading, Passed}
 use Rattle.run.specs.Read.Verdict.{refused, accepted}
-use Rattle.run.specs.Tables.{statesOf, placesIn, runIn, placeOf, slot, clockIn, Partnered, Listed}
-use Rattle.judging.specs.Judged.{Unpaired, FirstAt, Nowhere, Earliest, PairingJudged, Circular, CircleJudged, WrongClock, ClockJudged}
-use Rattle.judging.specs.Judged.ClockJudged.{wrongClock, allRight}
-use Rattle.judging.specs.Judged.CircleJudged.{circular, noCircle}
+use Rattle.run.specs.Said.{statesOf, placesIn, runIn, placeOf}
+use Rattle.run.specs.Tables.{slot, clockIn, Partnered, Listed}
+use Rattle.judging.specs.Judged.{Unpaired, FirstAt, Nowhere, Circular, WrongClock}
+use Rattle.judging.specs.Inner.{Earliest, PairingJudged, CircleJudged, ClockJudged}
+use Rattle.judging.specs.Inner.ClockJudged.{wrongClock, allRight}
+use Rattle.judging.specs.Inner.CircleJudged.{circular, noCircle}
 use Rattle.judging.specs.Order.{Ordered}
 use Rattle.judging.specs.Inner.{nextOf, Undone}
 use Rattle.judging.specs.Judged.Unpaired.{secondSend, secondReceive, noSend}
-use Rattle.judging.specs.Judged.PairingJudged.{unpaired, allPaired}
+use Rattle.judging.specs.Inner.PairingJudged.{unpaired, allPaired}
 use Rattle.judging.specs.Pairing.{which, Clear, Faulty, Backed, Met, Rows}
 use Rattle.judging.specs.Pairing.Faulty.{again, alone}
 use Rattle.run.proofs.Listed.{sides, process-of, place-rises, listed-count}

@@ -10,7 +10,8 @@ use Rattle.model.specs.declared.Message.{Message}
 use Rattle.model.specs.declared.Event.the-variants.{Receive}
 use Rattle.model.specs.Run.{Run, count, processes, into, IsState, Paired}
 use Rattle.model.specs.Cut.{AfterCircle, ClockIs}
-use Rattle.run.specs.Tables.{runIn, slot, clockIn}
+use Rattle.run.specs.Said.{runIn}
+use Rattle.run.specs.Tables.{slot, clockIn}
 use Rattle.judging.specs.Judged.{WrongClock}
 
 -- states 1 to done p of each process p are clear of circles with their clocks, and all others are on a circle or after one

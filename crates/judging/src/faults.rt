@@ -7,8 +7,9 @@ ghost use mathlib.Core.Logic.{_≢_};
 ghost use lib.ListN.{length, getD};
 ghost use Rattle.record.specs.Record.{headOf};
 ghost use Rattle.model.specs.Run.{IsState};
-ghost use Rattle.run.specs.Tables.{runIn, Placed};
-ghost use Rattle.judging.specs.Judged.{Earliest, lowerOf};
+ghost use Rattle.run.specs.Said.{runIn};
+ghost use Rattle.run.specs.Tables.{Placed};
+ghost use Rattle.judging.specs.Inner.{Earliest, lowerOf};
 
 // The lower of a place and the one so far.
 fn lower(so_far: First, place: usize) -> First

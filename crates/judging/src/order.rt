@@ -13,7 +13,8 @@ ghost use lib.ListN.{length, replicate};
 ghost use Rattle.model.specs.Run.{IsState, Known};
 ghost use Rattle.model.specs.Cut.{Clocks};
 ghost use Rattle.record.specs.Record.{headOf};
-ghost use Rattle.run.specs.Tables.{runIn, clockIn, Partnered, Placed, Listed};
+ghost use Rattle.run.specs.Said.{runIn};
+ghost use Rattle.run.specs.Tables.{clockIn, Partnered, Placed, Listed};
 ghost use Rattle.judging.specs.Order.{AheadIs, numberAt, numberOf, Written, Sound, Advanced, Swept, Ordered, Compared, FirstOf, FirstsTo};
 ghost use Rattle.judging.specs.Judged.{WrongClock};
 

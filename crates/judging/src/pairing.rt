@@ -13,8 +13,9 @@ ghost use Prim.Native.Nat.{_+_, _*_, _≤_, _<_};
 ghost use lib.ListN.{length, replicate};
 ghost use Rattle.model.specs.Run.{count, into, channel, IsState};
 ghost use Rattle.record.specs.Record.{headOf};
-ghost use Rattle.run.specs.Tables.{runIn, Placed, Listed};
-ghost use Rattle.judging.specs.Judged.{PairingJudged};
+ghost use Rattle.run.specs.Said.{runIn};
+ghost use Rattle.run.specs.Tables.{Placed, Listed};
+ghost use Rattle.judging.specs.Inner.{PairingJudged};
 ghost use Rattle.judging.specs.Pairing.{carries, Found, entry, Rising, Repeats, Received, Settled, Row, Rows};
 
 // Whether an event sends, or receives, the message.

@@ -18,8 +18,10 @@ ghost use lib.ListN.{length, getD, replicate};
 ghost use Rattle.model.specs.Run.{Known};
 ghost use Rattle.record.specs.Record.{headOf};
 ghost use Rattle.model.specs.Cut.{Clocks};
-ghost use Rattle.run.specs.Tables.{runIn, clockIn, Partnered, Listed};
-ghost use Rattle.judging.specs.Judged.{CircleJudged, ClockJudged, Judged, Ready};
+ghost use Rattle.run.specs.Said.{runIn};
+ghost use Rattle.run.specs.Tables.{clockIn, Partnered, Listed};
+ghost use Rattle.judging.specs.Judged.{Judged};
+ghost use Rattle.judging.specs.Inner.{CircleJudged, ClockJudged, Ready};
 ghost use Rattle.judging.specs.Inner.{nextOf, Undone};
 
 // The state behind the last one that is done, or 0 where all are.

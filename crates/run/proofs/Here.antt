@@ -19,7 +19,9 @@ use Rattle.record.proofs.Laws.{opened, step-opened, by-place}
 use Rattle.run.specs.declared.Reading.{Reading}
 use Rattle.run.specs.States.{placesOf}
 use Rattle.run.specs.Judge.{judgeNo}
-use Rattle.run.specs.Read.{Verdict, countsOf, ended, more, isEnd, readFrom, readOf, reading, Indexed, Passed}
+use Rattle.run.specs.Read.{Verdict, countsOf, ended, more, isEnd, readFrom, readOf}
+use Rattle.run.specs.Inner.{reading, Passed}
+use Rattle.run.specs.Tables.{Indexed}
 use Rattle.run.specs.Read.Verdict.{refused, accepted}
 use Rattle.run.specs.Inner.{Roomy, Noted}
 use Rattle.run.proofs.Laws.{head-ok, state-ok, state-there}

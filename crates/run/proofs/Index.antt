@@ -13,7 +13,8 @@ use lib.ListN.{length, getD, set, length-set, length-append, List·getD-append}
 use lib.Seq.{ext-getD, getD-set-same, getD-set-other, getD-append-seam}
 use Rattle.record.specs.Record.{fieldsAt}
 use Rattle.run.specs.States.{put, placesOf}
-use Rattle.run.specs.Read.{countsOf, Indexed}
+use Rattle.run.specs.Read.{countsOf}
+use Rattle.run.specs.Tables.{Indexed}
 use Rattle.run.proofs.Tabulate.{tabulate-length, tabulate-at}
 
 places-snoc : (s qs : List ℕ) (q p : ℕ) → placesOf s (qs ++ (q ∷ [])) p ≡ placesOf s qs p ++ put (eqb (fieldsAt s q .process) p) q []

@@ -12,7 +12,8 @@ use Rattle.record.specs.Record.{headOf, fieldsAt}
 use Rattle.run.specs.States.{eventOf, channelAt, placesOf}
 use Rattle.run.specs.Read.{readOf}
 use Rattle.run.specs.Read.Verdict.{accepted}
-use Rattle.run.specs.Tables.{statesOf, runIn, placeOf, slot, HasSlot, Placed, Listed}
+use Rattle.run.specs.Said.{statesOf, runIn, placeOf}
+use Rattle.run.specs.Tables.{slot, HasSlot, Placed, Listed}
 use Rattle.run.proofs.Index.{counts-at, counts-length}
 use Rattle.run.proofs.Places.{stands, places-grow}
 use Rattle.run.proofs.Accepted.{size, Accepted, run-accepted}

@@ -4,13 +4,17 @@ use mathlib.Core.List.{List}
 use Prim.Native.Nat.{ℕ, _+_, _*_, _<_}
 use lib.ListN.{getD, set}
 use Rattle.record.specs.Refusal.{refusal}
+use Rattle.record.specs.Record.{headOf}
 use Rattle.record.specs.declared.File.the-variants.{Run}
 use Rattle.record.specs.declared.Record.{Record}
 use Rattle.record.specs.declared.Record.the-variants as R
 use Rattle.record.specs.declared.Step.{Step}
 use Rattle.record.specs.declared.Step.the-variants as S
 use Rattle.run.specs.declared.Reading.{Reading}
-use Rattle.run.specs.declared.Reading.the-variants.{Refused}
+use Rattle.run.specs.declared.Reading.the-variants.{Accepted, Refused}
+use Rattle.run.specs.Read.{Verdict}
+use Rattle.run.specs.Read.Verdict.{refused, accepted}
+use Rattle.run.specs.Tables.{Indexed}
 
 abbrev pub handUp : Step → Reading
 handUp (S.Refused x) = Refused x
@@ -30,3 +34,13 @@ Noted (R.Channel l) at cs ps cs′ ps′ = (cs′ ≡ cs) × (ps′ ≡ ps)
 Noted (R.State f) at cs ps cs′ ps′ =
     (cs′ ≡ set cs (f .process) (getD cs (f .process) 0 + 1)) × (ps′ ≡ set ps (512 * f .process + getD cs (f .process) 0) at)
 Noted R.End at cs ps cs′ ps′ = (cs′ ≡ cs) × (ps′ ≡ ps)
+
+-- the pass's answer
+abbrev pub reading : List ℕ → Verdict → Reading
+reading s (refused x) = Refused x
+reading s (accepted qs) = Accepted (headOf s)
+
+-- what the pass leaves: its answer, and of an accepted run the index
+pub record Passed (s : List ℕ) (v : Verdict) (r : Reading) (counts places : List ℕ) : Type 0 where
+  pub answer : r ≡ reading s v
+  pub index : (qs : List ℕ) → v ≡ accepted qs → Indexed s qs counts places

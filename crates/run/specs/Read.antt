@@ -1,21 +1,19 @@
--- Reading a run: record by record, the first refusal, or the places of its states in file order; and what the index means.
-use mathlib.Core.Path.{_≡_}
+-- Reading a run: record by record, the first refusal, or the places of its states in file order.
 use mathlib.Core.Bool.{Bool, true, false, cond}
 use mathlib.Core.List.{List, [], _∷_, _++_}
-use Prim.Native.Nat.{ℕ, zero, suc, _+_, _*_, _<_}
+use Prim.Native.Nat.{ℕ, zero, suc, _+_}
 use lib.Dec.{ltb, eqb}
-use lib.ListN.{length, getD}
+use lib.ListN.{length}
 use Rattle.record.specs.Refusal.{number, refusal}
 use Rattle.record.specs.Refusal.Reason.{tooLong, wrongKind}
-use Rattle.record.specs.Record.{headOf, stepAt}
+use Rattle.record.specs.Record.{stepAt}
 use Rattle.record.specs.declared.File.the-variants.{Run}
 use Rattle.record.specs.declared.Refusal.{Refusal}
 use Rattle.record.specs.declared.Record.{Record}
 use Rattle.record.specs.declared.Record.the-variants as R
 use Rattle.record.specs.declared.Step.{Step}
 use Rattle.record.specs.declared.Step.the-variants as S
-use Rattle.run.specs.declared.Reading.{Reading}
-use Rattle.run.specs.declared.Reading.the-variants.{Accepted, Refused}
+use Rattle.run.specs.declared.Reading.the-variants.{Refused}
 use Rattle.run.specs.States.{placesOf, tabulate}
 use Rattle.run.specs.Judge.{judgeNo}
 
@@ -59,19 +57,3 @@ readFrom (suc f) s at qs =
 
 unfoldable pub readOf : List ℕ → Verdict
 readOf s = let read = readFrom (suc (length s)) s 0 [] in cond (ltb 65535 (length s)) (refused (refusal Run (number tooLong) 0)) read
-
--- the pass's answer
-abbrev pub reading : List ℕ → Verdict → Reading
-reading s (refused x) = Refused x
-reading s (accepted qs) = Accepted (headOf s)
-
--- state k of process p has its place at 512 p + k - 1 of the table
-pub record Indexed (s qs counts places : List ℕ) : Type 0 where
-  pub counted : counts ≡ countsOf s qs
-  pub few : (p : ℕ) → p < 8 → length (placesOf s qs p) < 513
-  pub placed : (p i : ℕ) → p < 8 → i < length (placesOf s qs p) → getD places (512 * p + i) 0 ≡ getD (placesOf s qs p) i 0
-
--- what the pass leaves: its answer, and of an accepted run the index
-pub record Passed (s : List ℕ) (v : Verdict) (r : Reading) (counts places : List ℕ) : Type 0 where
-  pub answer : r ≡ reading s v
-  pub index : (qs : List ℕ) → v ≡ accepted qs → Indexed s qs counts places

@@ -1,32 +1,17 @@
--- The run that a file's bytes say, and what the tables hold of an accepted run.
+-- What the tables hold of an accepted run.
 use mathlib.Core.Path.{_≡_}
 use mathlib.Core.Logic.{_⊎_}
-use mathlib.Core.List.{List, []}
+use mathlib.Core.List.{List}
 use Prim.Native.Nat.{ℕ, _+_, _-_, _*_, _≤_, _<_}
 use lib.ListN.{length, getD}
 use Rattle.model.specs.declared.Message.{Message}
 use Rattle.model.specs.declared.Event.the-variants.{Send}
 use Rattle.model.specs.Run.{Run, into, channel, Paired, Known}
 use Rattle.model.specs.Cut.{Clocks}
-use Rattle.run.specs.States.{placesOf, runOf}
-use Rattle.run.specs.Read.{Verdict, readOf, Indexed}
-use Rattle.run.specs.Read.Verdict.{refused, accepted}
-
--- the places of the state records in file order; none of a file that the pass refuses
-abbrev pub placesIn : Verdict → List ℕ
-placesIn (refused x) = []
-placesIn (accepted qs) = qs
-
-unfoldable pub statesOf : List ℕ → List ℕ
-statesOf s = placesIn (readOf s)
-
--- the run that the bytes say
-unfoldable pub runIn : List ℕ → Run
-runIn s = runOf s (statesOf s)
-
--- the byte place of state k of process p
-abbrev pub placeOf : List ℕ → ℕ → ℕ → ℕ
-placeOf s p k = getD (placesOf s (statesOf s) p) (k - 1) 0
+use Rattle.run.specs.States.{placesOf}
+use Rattle.run.specs.Read.{countsOf, readOf}
+use Rattle.run.specs.Said.{statesOf, runIn}
+use Rattle.run.specs.Read.Verdict.{accepted}
 
 -- state k of process i has entry 512 i + k - 1 of a table
 abbrev pub slot : ℕ → ℕ → ℕ
@@ -37,6 +22,12 @@ pub record HasSlot (i k : ℕ) : Type 0 where
   pub process : i < 8
   pub counted : 1 ≤ k
   pub few : k ≤ 512
+
+-- state k of process p has its place at 512 p + k - 1 of the table
+pub record Indexed (s qs counts places : List ℕ) : Type 0 where
+  pub counted : counts ≡ countsOf s qs
+  pub few : (p : ℕ) → p < 8 → length (placesOf s qs p) < 513
+  pub placed : (p i : ℕ) → p < 8 → i < length (placesOf s qs p) → getD places (512 * p + i) 0 ≡ getD (placesOf s qs p) i 0
 
 -- the other end of a send or of a receive; 0 of a send that isn't received
 pub record Partnered (r : Run) (partners : List ℕ) : Type 0 where

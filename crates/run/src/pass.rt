@@ -14,7 +14,8 @@ ghost use mathlib.Core.Path.{_≡_};
 ghost use Prim.Native.Nat.{suc, _+_, _*_, _≤_, _<_};
 ghost use mathlib.Core.List.{[]};
 ghost use lib.ListN.{length, getD, set, replicate};
-ghost use Rattle.run.specs.Read.{isEnd, reading, readFrom, readOf, Passed, ended};
+ghost use Rattle.run.specs.Read.{isEnd, readFrom, readOf, ended};
+ghost use Rattle.run.specs.Inner.{reading, Passed};
 ghost use Rattle.run.specs.Inner.{handUp, Roomy, Noted};
 
 // All zero.

@@ -5,7 +5,8 @@ ghost use mathlib.Core.Path.{_≡_};
 ghost use Prim.Native.Nat.{_<_};
 ghost use lib.ListN.{length, getD};
 ghost use Rattle.model.specs.Run.{into, IsState};
-ghost use Rattle.run.specs.Tables.{runIn, slot, HasSlot, Placed};
+ghost use Rattle.run.specs.Said.{runIn};
+ghost use Rattle.run.specs.Tables.{slot, HasSlot, Placed};
 
 // The state's entry.
 pub fn slot_of(p: u16, k: u16) -> usize

@@ -14,7 +14,8 @@ use Rattle.model.specs.Cut.{at, IsCut}
 use Rattle.model.specs.Clause.{Clause, holds, Linear, Satisfies}
 use Rattle.model.proofs.Search.{Under, Moves, move-on, run-out, arrive, clock-moves, ones-cut, ones-under, all-tested}
 use Rattle.record.specs.Record.{headOf}
-use Rattle.run.specs.Tables.{runIn, clockIn, Listed}
+use Rattle.run.specs.Said.{runIn}
+use Rattle.run.specs.Tables.{clockIn, Listed}
 use Rattle.run.proofs.Listed.{ok, processes-are, listed-count, listed-eight}
 use Rattle.condition.specs.Clauses.{clauseAt, clausesOf}
 use Rattle.condition.specs.Read.{placesIn, readOf, clausesIn}

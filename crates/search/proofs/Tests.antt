@@ -19,7 +19,7 @@ use Rattle.record.specs.Record.{headOf}
 use Rattle.run.specs.States.{channelAt}
 use Rattle.run.specs.Read.{readOf}
 use Rattle.run.specs.Read.Verdict.{accepted}
-use Rattle.run.specs.Tables.{statesOf, runIn}
+use Rattle.run.specs.Said.{statesOf, runIn}
 use Rattle.run.proofs.Listed.{sides, channels-are, channel-same}
 use Rattle.condition.specs.Clauses.{testOf}
 use Rattle.cut.specs.declared.Behind.{Behind}

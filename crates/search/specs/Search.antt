@@ -12,7 +12,8 @@ use Rattle.model.specs.Cut.{at, ByClock, inTransit}
 use Rattle.model.specs.Clause.{Comparison, Test, mover, Clause, holds, Satisfies, First}
 use Rattle.model.specs.Clause.Clause.{local, on}
 use Rattle.record.specs.Record.{headOf}
-use Rattle.run.specs.Tables.{runIn, clockIn, Tables}
+use Rattle.run.specs.Said.{runIn}
+use Rattle.run.specs.Tables.{clockIn, Tables}
 use Rattle.condition.specs.Read.{placesIn, readOf, clausesIn}
 use Rattle.condition.specs.Read.Verdict.{accepted}
 use Rattle.cut.specs.declared.Behind.{Behind}

@@ -5,7 +5,7 @@ use cut::Behind;
 ghost use mathlib.Core.Path.{_≡_};
 ghost use lib.ListN.{replicate};
 ghost use Rattle.model.specs.Run.{processes};
-ghost use Rattle.run.specs.Tables.{runIn};
+ghost use Rattle.run.specs.Said.{runIn};
 ghost use Rattle.search.specs.Search.{Given, Searched};
 
 // From state 1 everywhere to the first cut, or to a history that runs out.

@@ -14,7 +14,7 @@ use run::states::channel_at;
 ghost use Prim.Native.Nat.{_<_};
 ghost use Rattle.model.specs.Cut.{IsCut};
 ghost use Rattle.record.specs.Record.{headOf};
-ghost use Rattle.run.specs.Tables.{runIn};
+ghost use Rattle.run.specs.Said.{runIn};
 ghost use Rattle.condition.specs.Clauses.{clauseOf, clauseAt};
 ghost use Rattle.condition.specs.Known.{LocalKnown, TestKnown, ClauseKnown};
 ghost use Rattle.cut.specs.Lent.{Lent, Placed};

@@ -5,7 +5,7 @@ use Prim.Native.Nat.{_-_, _≤_, zero-le}
 use lib.ListN.{length}
 use Rattle.model.specs.Cut.{inTransit}
 use Rattle.record.specs.Record.{headOf}
-use Rattle.run.specs.Tables.{runIn}
+use Rattle.run.specs.Said.{runIn}
 use Rattle.checker.proofs.Writing.{Filled, filled-none, filled-more, filled-each}
 use Rattle.checker.proofs.listing.list.Statement.{statement}
 use Rattle.checker.proofs.listing.list.Tie as tie

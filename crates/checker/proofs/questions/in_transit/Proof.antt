@@ -4,7 +4,7 @@ use mathlib.Core.Path.{sym, ap, _∙_, subst}
 use Prim.Native.Nat.{_≤_, _<_}
 use Rattle.model.specs.Run.{processes, count, channel}
 use Rattle.model.specs.Cut.{at, between, inTransit}
-use Rattle.run.specs.Tables.{runIn}
+use Rattle.run.specs.Said.{runIn}
 use Rattle.run.proofs.Listed.{ok, processes-are, channel-is}
 use Rattle.cut.specs.Tally.{tallyOf, asked}
 use Rattle.cut.proofs.Passed.{tally-count}

@@ -1,7 +1,7 @@
 use native.Mathlib.Omega.{arith}
 use Prim.Native.Nat.{ℕ, _+_, _-_, _≤_, _<_}
 use Rattle.model.specs.Run.{IsState}
-use Rattle.run.specs.Tables.{runIn}
+use Rattle.run.specs.Said.{runIn}
 use Rattle.cut.specs.Early.{InTime}
 use Rattle.cut.proofs.Stored.{processes-few, states-few}
 use Rattle.cut.proofs.Received.{in-time-start, in-time-next, early-in-here, early-in-none}

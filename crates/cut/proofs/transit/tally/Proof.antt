@@ -9,7 +9,7 @@ use mathlib.Core.Bool.{true, false}
 use mathlib.Core.List.{[]}
 use Prim.Native.Nat.{zero-le, _≤_, _-_}
 use Rattle.model.specs.Cut.{add, between}
-use Rattle.run.specs.Tables.{runIn}
+use Rattle.run.specs.Said.{runIn}
 use Rattle.condition.specs.Clauses.{comparisonOf}
 use Rattle.cut.specs.Tally.{stamped, countOf, tallyOf}
 use Rattle.cut.proofs.Stored.{stored}

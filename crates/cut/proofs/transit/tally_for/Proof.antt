@@ -6,7 +6,7 @@ use mir.Val.{toZ, ofZ}
 use mir.Facts.{toZ-ofZ}
 use lib.IntN.{ℤ}
 use Rattle.model.specs.Cut.{between}
-use Rattle.run.specs.Tables.{runIn}
+use Rattle.run.specs.Said.{runIn}
 use Rattle.condition.specs.Clauses.{comparisonOf}
 use Rattle.cut.specs.Tally.{stamped, tallyOf, comparisonFor}
 use Rattle.cut.proofs.transit.tally_for.Statement.{statement}

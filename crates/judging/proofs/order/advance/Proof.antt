@@ -4,7 +4,7 @@ use mathlib.Core.Path.{sym, _∙_}
 use Prim.Native.Nat.{_<_}
 use lib.ListN.{getD}
 use Rattle.model.specs.Run.{count}
-use Rattle.run.specs.Tables.{runIn}
+use Rattle.run.specs.Said.{runIn}
 use Rattle.run.proofs.Listed.{ok, processes-are, listed-places}
 use Rattle.judging.proofs.Partners.{row-of, small-run}
 use Rattle.judging.proofs.Orders.{ahead-apart, ahead-small, advanced-end, advanced-wait, advanced-on}

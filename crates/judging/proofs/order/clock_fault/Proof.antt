@@ -1,7 +1,7 @@
 use native.Mathlib.Omega.{arith}
 use Prim.Native.Nat.{ℕ, _+_, _-_, _≤_, _<_}
 use Rattle.model.specs.Run.{IsState}
-use Rattle.run.specs.Tables.{runIn}
+use Rattle.run.specs.Said.{runIn}
 use Rattle.judging.specs.Judged.{WrongClock}
 use Rattle.run.proofs.Listed.{listed-places}
 use Rattle.judging.proofs.Partners.{row-of}

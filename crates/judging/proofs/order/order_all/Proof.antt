@@ -1,7 +1,7 @@
 use mathlib.Core.Path.{_≡_, sym, ap, _∙_}
 use Prim.Native.Nat.{ℕ, _-_}
 use lib.ListN.{length, length-replicate}
-use Rattle.run.specs.Tables.{runIn}
+use Rattle.run.specs.Said.{runIn}
 use Rattle.judging.specs.Order.{Sound, total}
 use Rattle.run.proofs.Listed.{processes-are}
 use Rattle.judging.proofs.Partners.{small-run}

@@ -2,7 +2,7 @@ use native.Mathlib.Omega.{arith}
 use mathlib.Core.Path.{_≡_, sym, _∙_}
 use Prim.Native.Nat.{_-_, _≤_}
 use lib.ListN.{length}
-use Rattle.run.specs.Tables.{runIn}
+use Rattle.run.specs.Said.{runIn}
 use Rattle.judging.specs.Order.{Swept}
 use Rattle.run.proofs.Listed.{ok}
 use Rattle.judging.proofs.Orders.{swept-start, swept-next}

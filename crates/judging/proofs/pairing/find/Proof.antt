@@ -6,7 +6,7 @@ use lib.Dec.{T}
 use Prim.Native.Nat.{ℕ, suc, _≤_, _<_, _+_, _-_}
 use native.Mathlib.Nat.{eq-or-lt-of-le}
 use Rattle.model.specs.Run.{into}
-use Rattle.run.specs.Tables.{runIn}
+use Rattle.run.specs.Said.{runIn}
 use Rattle.judging.specs.Pairing.{carries}
 use Rattle.judging.specs.Pairing.Found.{nowhere, here}
 use Rattle.run.proofs.Listed.{placed-few}

@@ -3,7 +3,7 @@ use native.Mathlib.Omega.{arith}
 use mathlib.Core.Path.{_≡_, refl, sym, ap, _∙_}
 use Prim.Native.Nat.{ℕ, _≤_, _-_, zero-le}
 use lib.ListN.{length, length-set, length-replicate}
-use Rattle.run.specs.Tables.{runIn}
+use Rattle.run.specs.Said.{runIn}
 use Rattle.judging.specs.Pairing.{Rows}
 use Rattle.judging.proofs.Partners.{rows-start, rows-next}
 use Rattle.run.proofs.Listed.{ok}

@@ -5,7 +5,7 @@ use Prim.Native.Nat.{_+_, _≤_, _-_}
 use native.Mathlib.Numerals.{add-one}
 use lib.ListN.{length}
 use Rattle.model.specs.Run.{IsState}
-use Rattle.run.specs.Tables.{runIn}
+use Rattle.run.specs.Said.{runIn}
 use Rattle.judging.specs.Pairing.{Rising, Settled}
 use Rattle.judging.proofs.Partners.{Partway, partway-start, partway-next, row-fault, row-end, rising-start, row-of, small-run}
 use Rattle.judging.proofs.pairing.pair_row.Statement.{statement}

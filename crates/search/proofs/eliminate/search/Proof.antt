@@ -4,7 +4,7 @@ use mathlib.Core.Path.{sym, ap, _∙_}
 use Prim.Native.Nat.{_-_}
 use lib.ListN.{length, length-replicate}
 use Rattle.model.specs.Cut.{IsCut}
-use Rattle.run.specs.Tables.{runIn}
+use Rattle.run.specs.Said.{runIn}
 use Rattle.search.specs.Search.{Lowest, clausesFor}
 use Rattle.search.proofs.Moving.{search-start, search-found, moved-process, search-nowhere, search-move, search-less, total}
 use Rattle.search.proofs.eliminate.search.Statement.{statement}

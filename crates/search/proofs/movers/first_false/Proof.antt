@@ -7,7 +7,7 @@ use mathlib.Core.Logic.{⊎-elim}
 use lib.Dec.{T}
 use lib.ListN.{getD}
 use Rattle.model.specs.Clause.{holds}
-use Rattle.run.specs.Tables.{runIn}
+use Rattle.run.specs.Said.{runIn}
 use Rattle.condition.specs.Clauses.{clauseAt}
 use Rattle.search.specs.Search.{isLocal}
 use Rattle.search.proofs.Moving.{lent, clause-known, few-clauses, tried-holds, all-of-kind, one-of-kind}

@@ -3,7 +3,7 @@ use native.Mathlib.Omega.{arith}
 use mathlib.Core.Path.{_≡_, sym, _∙_}
 use Prim.Native.Nat.{_<_}
 use Rattle.model.specs.Run.{processes}
-use Rattle.run.specs.Tables.{runIn}
+use Rattle.run.specs.Said.{runIn}
 use Rattle.run.proofs.Listed.{processes-are}
 use mir.Syntax.{w32}
 use mir.Val.{toZ, ofZ}

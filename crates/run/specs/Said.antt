@@ -1,0 +1,24 @@
+-- The run that a file's bytes say.
+use mathlib.Core.List.{List, []}
+use Prim.Native.Nat.{ℕ, _-_}
+use lib.ListN.{getD}
+use Rattle.model.specs.Run.{Run}
+use Rattle.run.specs.States.{placesOf, runOf}
+use Rattle.run.specs.Read.{Verdict, readOf}
+use Rattle.run.specs.Read.Verdict.{refused, accepted}
+
+-- the places of the state records in file order; none of a file that the pass refuses
+abbrev pub placesIn : Verdict → List ℕ
+placesIn (refused x) = []
+placesIn (accepted qs) = qs
+
+unfoldable pub statesOf : List ℕ → List ℕ
+statesOf s = placesIn (readOf s)
+
+-- the run that the bytes say
+unfoldable pub runIn : List ℕ → Run
+runIn s = runOf s (statesOf s)
+
+-- the byte place of state k of process p
+abbrev pub placeOf : List ℕ → ℕ → ℕ → ℕ
+placeOf s p k = getD (placesOf s (statesOf s) p) (k - 1) 0
