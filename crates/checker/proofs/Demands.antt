@@ -59,23 +59,21 @@ module _ {s c lent lent′ : List ℕ} where
   pub no-room-last : {a : Answer} → Both s c → length lent < headOf s .processes → Answered s c lent lent′ a → a ≡ A.Refused (refusal Run (number noRoom) 0)
   no-room-last v h w = answered-one w (few v h refl) .0
 
-  -- "A refusal changes nothing in lent memory."
-  pub refusal-changes-nothing : {x : Refusal} {a : Answer} → Answered s c lent lent′ a → a ≡ A.Refused x → lent′ ≡ lent
-  refusal-changes-nothing (runRefused y v k) e = k
-  refusal-changes-nothing (condRefused y v r k) e = k
-  refusal-changes-nothing (few v h k) e = k
-  refusal-changes-nothing (nowhere v h n k) e = k
-  refusal-changes-nothing (tooEarly v h cut f n k) e = k
-  refusal-changes-nothing (found v h cut f b w) e = absurd (let z : _≡_ {A = ℕ} 0 1 = cc in omega arith)
+  only-found-writes : {a : Answer} → Answered s c lent lent′ a → ¬ (a ≡ A.Found) → lent′ ≡ lent
+  only-found-writes (runRefused y v k) n = k
+  only-found-writes (condRefused y v r k) n = k
+  only-found-writes (few v h k) n = k
+  only-found-writes (nowhere v h z k) n = k
+  only-found-writes (tooEarly v h cut f z k) n = k
+  only-found-writes (found v h cut f b w) n = absurd (n refl)
 
-  -- "None changes nothing."
-  pub none-changes-nothing : {a : Answer} → Answered s c lent lent′ a → a ≡ A.Nowhere → lent′ ≡ lent
-  none-changes-nothing (runRefused y v k) e = k
-  none-changes-nothing (condRefused y v r k) e = k
-  none-changes-nothing (few v h k) e = k
-  none-changes-nothing (nowhere v h n k) e = k
-  none-changes-nothing (tooEarly v h cut f n k) e = k
-  none-changes-nothing (found v h cut f b w) e = absurd (let z : _≡_ {A = ℕ} 0 1 = cc in omega arith)
+  -- "A refusal changes nothing in lent memory,"
+  pub refusal-changes-nothing : {x : Refusal} → Answered s c lent lent′ (A.Refused x) → lent′ ≡ lent
+  refusal-changes-nothing w = only-found-writes w (λ e. let z : _≡_ {A = ℕ} 0 1 = cc in omega arith)
+
+  -- nor does none.
+  pub none-changes-nothing : Answered s c lent lent′ A.Nowhere → lent′ ≡ lent
+  none-changes-nothing w = only-found-writes w (λ e. let z : _≡_ {A = ℕ} 0 1 = cc in omega arith)
 
 -- ---- demand 2
 
