@@ -2,14 +2,16 @@ use borrow.Author.Needs.{needs}
 use borrow.Author.Needs.{sfits-of}
 use mir.Facts.{toZ-ofZ}
 use mir.Syntax.{w32}
-use mathlib.Core.Path.{_∙_}
+use mathlib.Core.Path.{refl, _∙_}
 use Rattle.condition.specs.Clauses.{localAt}
 use Rattle.condition.proofs.clauses.local_at.Statement.{statement}
 use Rattle.condition.proofs.clauses.local_at.Tie as tie
 
 returns : tie.Need-returns
 unfolding localAt
-returns c = let e = toZ-ofZ {w = w32} (sfits-of (c .i32-at .ok)) ∙ c .i32-at .ensures in cc (e)
+returns c =
+    let e = toZ-ofZ {w = w32} (sfits-of (c .i32-at .ok)) ∙ c .i32-at .ensures in
+    rw (c .before .before .before .u16-at .ensures, c .before .before .u16-at2 .ensures, c .before .u16-at3 .ensures, e) refl
 
 pub local-at-spec : {M : Type 1} → statement M
 local-at-spec =

@@ -1,6 +1,7 @@
 use native.Mathlib.Omega.{arith}
-use mathlib.Core.Path.{sym, _∙_}
+use mathlib.Core.Path.{sym, ap, _∙_}
 use borrow.Author.Tests.{ne-eqb}
+use Rattle.condition.specs.declared.Item.the-variants.{Head, Clause}
 use Rattle.condition.specs.Step.{itemAt}
 use Rattle.condition.proofs.Laws.{opened, whole-head, whole-clause, clause-kind}
 use Rattle.condition.proofs.steps.item_at.Statement.{statement}
@@ -27,7 +28,7 @@ clause-at-requires c κs =
 
 returns : tie.Need-returns
 unfolding itemAt
-returns c = simp (← c .before .before .u16-at .ensures, c .before .match .keys1) (cc)
+returns c = simp (← c .before .before .u16-at .ensures, c .before .match .keys1) (ap Head (c .u16-at2 .ensures))
 
 returns-2 : tie.Need-returns-2
 unfolding itemAt
@@ -35,7 +36,7 @@ returns-2 c = simp (← c .before .u16-at .ensures, c .match .keys2)
 
 returns-3 : tie.Need-returns-3
 unfolding itemAt
-returns-3 c = let n = c .before .match .rest in simp (← c .before .before .u16-at .ensures, ne-eqb _ _ (n .0 .1), ne-eqb _ _ (n .1)) (cc)
+returns-3 c = let n = c .before .match .rest in simp (← c .before .before .u16-at .ensures, ne-eqb _ _ (n .0 .1), ne-eqb _ _ (n .1)) (ap Clause (c .clause-at .ensures))
 
 pub item-at-spec : {M : Type 1} → statement M
 item-at-spec =

@@ -1,6 +1,6 @@
 use borrow.Author.Needs.{needs}
 use native.Mathlib.Omega.{arith}
-use mathlib.Core.Path.{sym, _∙_}
+use mathlib.Core.Path.{refl, sym, _∙_}
 use borrow.Author.Tests.{eq-eqb, ne-eqb}
 use Rattle.condition.specs.Step.{stepAt}
 use Rattle.condition.proofs.Laws.{opened}
@@ -9,7 +9,7 @@ use Rattle.condition.proofs.steps.step.Tie as tie
 
 returns : tie.Need-returns
 unfolding stepAt
-returns c = simp (ne-eqb _ 0 (λ z. c .before .if1 .taken (c .before .before .step-no .ensures ∙ z))) (cc)
+returns c = simp (ne-eqb _ 0 (λ z. c .before .if1 .taken (c .before .before .step-no .ensures ∙ z))) (rw (c .refusal-of .ensures, c .before .before .step-no .ensures) refl)
 
 u16-at-requires : tie.Need-u16-at-requires
 u16-at-requires c κs =
@@ -26,7 +26,7 @@ item-at-requires c κs = record { owed = _; opening = sym (c .before .before .st
 
 returns-2 : tie.Need-returns-2
 unfolding stepAt
-returns-2 c = let e = sym (c .before .before .before .step-no .ensures) ∙ c .before .before .if1 .left in simp (eq-eqb _ 0 e) (cc)
+returns-2 c = let e = sym (c .before .before .before .step-no .ensures) ∙ c .before .before .if1 .left in simp (eq-eqb _ 0 e) (rw (c .item-at .ensures, c .before .u16-at .ensures) refl)
 
 pub step-spec : {M : Type 1} → statement M
 step-spec =

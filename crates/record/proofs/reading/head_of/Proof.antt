@@ -1,4 +1,5 @@
 use borrow.Author.Needs.{needs}
+use mathlib.Core.Path.{refl}
 use Rattle.record.specs.Record.{headOf}
 use borrow.Author.Tests.{lt-ltb, le-ltb}
 use Rattle.record.proofs.reading.head_of.Statement.{statement}
@@ -10,7 +11,7 @@ returns c = simp (lt-ltb _ _ (c .if1 .taken))
 
 returns-2 : tie.Need-returns-2
 unfolding headOf
-returns-2 c = simp (le-ltb _ _ (c .before .before .if1 .left)) (cc)
+returns-2 c = simp (le-ltb _ _ (c .before .before .if1 .left)) (rw (c .before .u16-at .ensures, c .u16-at2 .ensures) refl)
 
 pub head-of-spec : {M : Type 1} → statement M
 head-of-spec =

@@ -1,7 +1,8 @@
 use borrow.Author.Needs.{needs}
 use native.Mathlib.Omega.{arith}
-use mathlib.Core.Path.{sym, _∙_}
+use mathlib.Core.Path.{sym, ap, _∙_}
 use borrow.Author.Tests.{ne-eqb}
+use Rattle.record.specs.declared.Record.the-variants.{Head, Channel, State}
 use Rattle.record.specs.Record.{lengthOf, recordAt}
 use Rattle.record.proofs.Laws.{opened, opened-whole}
 use Rattle.record.proofs.reading.record_at.Statement.{statement}
@@ -23,15 +24,15 @@ fields-at-requires c κs = omega (arith, opened-whole _ _ 3 (c .before .before .
 
 returns : tie.Need-returns
 unfolding recordAt
-returns c = simp (← c .before .before .u16-at .ensures, c .before .match .keys1) (cc)
+returns c = simp (← c .before .before .u16-at .ensures, c .before .match .keys1) (ap Head (c .head-of .ensures))
 
 returns-2 : tie.Need-returns-2
 unfolding recordAt
-returns-2 c = simp (← c .before .before .u16-at .ensures, c .before .match .keys2) (cc)
+returns-2 c = simp (← c .before .before .u16-at .ensures, c .before .match .keys2) (ap Channel (c .line-at .ensures))
 
 returns-3 : tie.Need-returns-3
 unfolding recordAt
-returns-3 c = simp (← c .before .before .u16-at .ensures, c .before .match .keys3) (cc)
+returns-3 c = simp (← c .before .before .u16-at .ensures, c .before .match .keys3) (ap State (c .fields-at .ensures))
 
 returns-4 : tie.Need-returns-4
 unfolding recordAt
