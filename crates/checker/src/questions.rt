@@ -165,36 +165,14 @@ fn satisfied(
     requires { ⌜ Given (now run) (now cond) (now counts) (now places) (now partners) (now clocks) (now clauses) k × IsCut (runIn (now run)) (now cut) ⌝ }
     ensures { λ r. ⌜ (r ≡ true) ↔ Satisfies (runIn (now (run .entry))) (clausesFor (now (run .entry)) (now (cond .entry))) (now (cut .entry)) ⌝ }
 {
-    let local = first_false(
-        run,
-        counts,
-        places,
-        partners,
-        clocks,
-        cond,
-        clauses,
-        k,
-        cut,
-        true,
-    );
+    let local = first_false(run, places, partners, cond, clauses, k, cut, true);
     let Behind::Nobody = local else {
         return false;
     };
     if !consistent(clocks, cut) {
         return false;
     }
-    let channel = first_false(
-        run,
-        counts,
-        places,
-        partners,
-        clocks,
-        cond,
-        clauses,
-        k,
-        cut,
-        false,
-    );
+    let channel = first_false(run, places, partners, cond, clauses, k, cut, false);
     let Behind::Nobody = channel else {
         return false;
     };

@@ -29,6 +29,12 @@ pub record Given (s c cs ps ns ks qs : List ℕ) (k : ℕ) : Type 0 where
   pub placed : (i : ℕ) → i < k → getD qs i 0 ≡ getD (placesIn (readOf c (headOf s))) i 0
   pub long : length qs ≡ 32
 
+-- the same for who needs neither counts nor clocks
+pub record Handed (s c ps ns qs : List ℕ) (k : ℕ) : Type 0 where
+  pub counts : List ℕ
+  pub clocks : List ℕ
+  pub given : Given s c counts ps ns clocks qs k
+
 -- the condition's clauses
 abbrev pub clausesFor : List ℕ → List ℕ → List Clause
 clausesFor s c = clausesIn c (headOf s)

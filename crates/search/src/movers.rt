@@ -18,7 +18,7 @@ ghost use Rattle.run.specs.Said.{runIn};
 ghost use Rattle.condition.specs.Clauses.{clauseOf, clauseAt};
 ghost use Rattle.condition.specs.Known.{LocalKnown, TestKnown, ClauseKnown};
 ghost use Rattle.cut.specs.Lent.{Lent, Placed};
-ghost use Rattle.search.specs.Search.{Given, Tested, Tried, KindTested, Lowest, Moved, clausesFor};
+ghost use Rattle.search.specs.Search.{Given, Handed, Tested, Tried, KindTested, Lowest, Moved, clausesFor};
 
 // A local clause names its process.
 fn local_mover(run: &[u8], places: &[u16], cut: &[u16], clause: Local) -> Behind
@@ -102,17 +102,15 @@ fn clause_mover(
 // The first clause of the kind that is false names who has to move.
 pub fn first_false(
     run: &[u8],
-    counts: &[u16],
     places: &[u16],
     partners: &[u16],
-    clocks: &[u16],
     cond: &[u8],
     clauses: &[u16],
     k: u16,
     cut: &[u16],
     locals: bool,
 ) -> Behind
-    requires { ⌜ Given (now run) (now cond) (now counts) (now places) (now partners) (now clocks) (now clauses) k × IsCut (runIn (now run)) (now cut) ⌝ }
+    requires { ⌜ Handed (now run) (now cond) (now places) (now partners) (now clauses) k × IsCut (runIn (now run)) (now cut) ⌝ }
     ensures { λ r. ⌜ KindTested (now (run .entry)) (now (cond .entry)) (now (cut .entry)) locals r ⌝ }
 {
     let mut i: usize = 0;
@@ -149,18 +147,7 @@ pub fn first_mover(
     requires { ⌜ Given (now run) (now cond) (now counts) (now places) (now partners) (now clocks) (now clauses) k × IsCut (runIn (now run)) (now cut) × Lowest (runIn (now run)) (clausesFor (now run) (now cond)) (now cut) ⌝ }
     ensures { λ r. ⌜ Moved (now (run .entry)) (now (cond .entry)) (now (clocks .entry)) (now (cut .entry)) r ⌝ }
 {
-    let local = first_false(
-        run,
-        counts,
-        places,
-        partners,
-        clocks,
-        cond,
-        clauses,
-        k,
-        cut,
-        true,
-    );
+    let local = first_false(run, places, partners, cond, clauses, k, cut, true);
     let Behind::Nobody = local else {
         return local;
     };
@@ -168,16 +155,5 @@ pub fn first_mover(
     let Behind::Nobody = low else {
         return low;
     };
-    first_false(
-        run,
-        counts,
-        places,
-        partners,
-        clocks,
-        cond,
-        clauses,
-        k,
-        cut,
-        false,
-    )
+    first_false(run, places, partners, cond, clauses, k, cut, false)
 }

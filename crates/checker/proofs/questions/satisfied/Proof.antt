@@ -12,6 +12,12 @@ use Rattle.checker.proofs.questions.satisfied.Tie as tie
 denied : {t : Bool} → not t ≡ true → t ≡ true → ⊥
 denied {t} d e = let f = not-true t d in let z : _≡_ {A = ℕ} 0 1 = cc (e, f) in omega arith
 
+locals-asked : tie.Need-first-false-requires
+locals-asked c κs = let r = c .before .before .before .before .before .before .before .before .pre in (record { counts = _; clocks = _; given = r .0 }, r .1)
+
+channels-asked : tie.Need-first-false-requires-2
+channels-asked c κs = let r = c .before .before .before .before .before .before .before .before .before .before .before .before .before .pre in (record { counts = _; clocks = _; given = r .0 }, r .1)
+
 local-false : tie.Need-returns
 local-false c =
     let r = c .before .before .before .before .before .before .before .before .before .before .before .pre in
@@ -43,5 +49,5 @@ all-hold c =
 pub satisfied-spec : {M : Type 1} → statement M
 satisfied-spec =
     tie.close (tie.spec
-    (λ c κs. search needs) (λ c. search needs) (λ c. search needs) local-false consistent-requires not-consistent
-    (λ c κs. search needs) (λ c. search needs) (λ c. search needs) channel-false all-hold)
+    locals-asked (λ c. search needs) (λ c. search needs) local-false consistent-requires not-consistent
+    channels-asked (λ c. search needs) (λ c. search needs) channel-false all-hold)

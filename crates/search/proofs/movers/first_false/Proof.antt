@@ -18,56 +18,56 @@ below : {x n : ℕ} → x < n + 1 → x ≤ n
 below h = omega arith
 
 abbrev Inv-loop : tie.InvT-loop
-Inv-loop run counts places partners clocks cond clauses k cut locals i₀ i =
+Inv-loop run places partners cond clauses k cut locals i₀ i =
     (i ≤ k) × ((j : ℕ) → j < i → isLocal (clauseAt cond (getD clauses j 0)) ≡ locals → T (holds (runIn run) cut (clauseAt cond (getD clauses j 0))))
 
 abbrev μ-loop : tie.MeasureT-loop
-μ-loop run counts places partners clocks cond clauses k cut locals i₀ i = k - i
+μ-loop run places partners cond clauses k cut locals i₀ i = k - i
 
 loop-holds : tie.Need-loop-holds Inv-loop μ-loop
 loop-holds c = (zero-le, λ j h. absurd (omega arith))
 
 mul-clause-mover : tie.Need-mul-clause-mover Inv-loop μ-loop
 mul-clause-mover c =
-    let r = c .before .before .before .before .before .before .before .before .before .before .pre in
+    let r = c .before .before .before .before .before .before .before .before .pre in
     let l = c .before .loop in
-    let few = few-clauses (r .0) in
+    let few = few-clauses (r .0 .given) in
     omega arith
 
 shared-slice-read-clause-mover : tie.Need-shared-slice-read-clause-mover Inv-loop μ-loop
 shared-slice-read-clause-mover c =
-    let r = c .before .before .before .before .before .before .before .before .before .before .before .pre in
+    let r = c .before .before .before .before .before .before .before .before .before .pre in
     let l = c .before .before .loop in
-    let few = few-clauses (r .0) in
-    omega (arith, r .0 .long)
+    let few = few-clauses (r .0 .given) in
+    omega (arith, r .0 .given .long)
 
 cast-clause-mover : tie.Need-cast-clause-mover Inv-loop μ-loop
-cast-clause-mover c = omega (arith, c .shared-slice-known9 .given (c .before .before .loop .i))
+cast-clause-mover c = omega (arith, c .shared-slice-known7 .given (c .before .before .loop .i))
 
 clause-mover-requires : tie.Need-clause-mover-requires Inv-loop μ-loop
 clause-mover-requires c κs =
-    let r = c .before .before .before .before .before .before .before .before .before .before .before .pre in
+    let r = c .before .before .before .before .before .before .before .before .before .pre in
     let l = c .before .before .loop in
-    (lent (r .0), r .1, clause-known (r .0) (l .i) (c .before .loop-test .taken))
+    (lent (r .0 .given), r .1, clause-known (r .0 .given) (l .i) (c .before .loop-test .taken))
 
 returns : tie.Need-returns Inv-loop μ-loop
 returns c =
-    let r = c .before .before .before .before .before .before .before .before .before .before .before .before .before .before .pre in
+    let r = c .before .before .before .before .before .before .before .before .before .before .before .before .pre in
     let l = c .before .before .before .before .before .loop in
-    one-of-kind (r .0) _ (l .i) (c .before .before .before .before .loop-test .taken) (c .enum-told2 .given .1) (c .before .before .clause-mover .ensures)
+    one-of-kind (r .0 .given) _ (l .i) (c .before .before .before .before .loop-test .taken) (c .enum-told2 .given .1) (c .before .before .clause-mover .ensures)
 
 add-i : tie.Need-add-i Inv-loop μ-loop
 add-i c =
-    let r = c .before .before .before .before .before .before .before .before .before .before .before .before .before .before .pre in
+    let r = c .before .before .before .before .before .before .before .before .before .before .before .before .pre in
     let l = c .before .before .before .before .before .loop in
-    let few = few-clauses (r .0) in
+    let few = few-clauses (r .0 .given) in
     omega arith
 
 loop-again : tie.Need-loop-again Inv-loop μ-loop
 loop-again c =
-    let a = c .before .before .before .before .before .before .before .before .before .before .before .before .before .before .args in
+    let a = c .before .before .before .before .before .before .before .before .before .before .before .before .args in
     let l = c .before .before .before .before .before .loop in
-    let few = few-clauses (c .before .before .before .before .before .before .before .before .before .before .before .before .before .before .pre .0) in
+    let few = few-clauses (c .before .before .before .before .before .before .before .before .before .before .before .before .pre .0 .given) in
     let here = tried-holds (c .enum-told .given .1) (c .before .before .clause-mover .ensures) in (
       omega arith,
       λ j h. ⊎-elim
@@ -77,8 +77,8 @@ loop-again c =
 
 returns-2 : tie.Need-returns-2 Inv-loop μ-loop
 returns-2 c =
-    let r = c .before .before .before .before .before .before .before .before .before .before .pre in
-    all-of-kind (r .0) _ _ (λ j h. c .before .loop .inv .1 j (omega (arith, c .loop-test .left)))
+    let r = c .before .before .before .before .before .before .before .before .pre in
+    all-of-kind (r .0 .given) _ _ (λ j h. c .before .loop .inv .1 j (omega (arith, c .loop-test .left)))
 
 pub first-false-spec : {M : Type 1} → statement M
 first-false-spec =

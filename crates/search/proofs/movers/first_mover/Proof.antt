@@ -4,6 +4,12 @@ use Rattle.search.proofs.Moving.{moved-clause, moved-low, moved-last, i
 use Rattle.search.proofs.movers.first_mover.Statement.{statement}
 use Rattle.search.proofs.movers.first_mover.Tie as tie
 
+locals-asked : tie.Need-first-false-requires
+locals-asked c κs = let r = c .before .before .before .before .before .before .before .before .pre in (record { counts = _; clocks = _; given = r .0 }, r .1)
+
+channels-asked : tie.Need-first-false-requires-2
+channels-asked c κs = let r = c .before .before .before .before .before .before .before .before .before .before .before .before .before .before .pre in (record { counts = _; clocks = _; given = r .0 }, r .1)
+
 local : tie.Need-returns
 local c =
     let r = c .before .before .before .before .before .before .before .before .before .before .before .pre in
@@ -28,5 +34,5 @@ last c =
 pub first-mover-spec : {M : Type 1} → statement M
 first-mover-spec =
     tie.close (tie.spec
-    (λ c κs. search needs) (λ c. search needs) (λ c. search needs) local too-low-requires
-    (λ c. search needs) (λ c. search needs) low (λ c κs. search needs) last)
+    locals-asked (λ c. search needs) (λ c. search needs) local too-low-requires
+    (λ c. search needs) (λ c. search needs) low channels-asked last)
