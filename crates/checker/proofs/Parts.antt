@@ -1,21 +1,24 @@
 -- What the parts of a public call hand up: the judging of the run, the reading of the condition, the elimination.
-use mathlib.Core.Path.{_≡_, refl, sym, ap, subst}
+use mathlib.Core.Path.{_≡_, refl, sym, ap, _∙_, subst}
 use mathlib.Core.List.{List, _∷_}
 use Prim.Native.Nat.{ℕ, zero, suc, _≤_, _<_}
 use native.Mathlib.Omega.{arith}
 use lib.ListN.{length, getD, take, replicate}
+use lib.Seq.{ext-getD, getD-take, length-take-le}
 use Rattle.model.specs.Clause.{Satisfies, First}
 use Rattle.record.specs.Record.{headOf}
 use Rattle.record.specs.declared.Head.{Head}
 use Rattle.record.specs.declared.Refusal.{Refusal}
 use Rattle.run.specs.Said.{runIn}
-use Rattle.run.specs.Tables.{Listed, Tables}
+use Rattle.run.specs.Tables.{Tables}
 use Rattle.judging.specs.Judged.{Judged}
 use Rattle.judging.specs.Inner.{Ready}
 use Rattle.judging.specs.Judged.Judged.{byPass, byPairing, byCircle, byClock, wholly}
 use Rattle.run.specs.declared.Reading.{Reading}
 use Rattle.run.specs.declared.Reading.the-variants as R
-use Rattle.condition.specs.Read.{Verdict, placesIn, readOf, Passed}
+use Rattle.condition.specs.Clauses.{clausesOf}
+use Rattle.condition.specs.Known.{Known}
+use Rattle.condition.specs.Read.{Verdict, placesIn, readOf, Passed, clausesIn}
 use Rattle.condition.specs.Read.Verdict.{refused, accepted}
 use Rattle.condition.specs.declared.Reading as D
 use Rattle.condition.specs.declared.Reading.the-variants as C
@@ -23,7 +26,9 @@ use Rattle.search.specs.Search.{Given, Searched, clausesFor}
 use Rattle.search.specs.Search.Searched.{found, nowhere}
 use Rattle.search.specs.declared.Answer as E
 use Rattle.search.specs.declared.Answer.the-variants as S
+use Rattle.condition.proofs.Accepted.{condition-known}
 use Rattle.checker.specs.Accepted.{RunAccepted}
+use Rattle.checker.specs.Inner.{Prepared}
 
 -- ---- the run
 
@@ -41,11 +46,8 @@ module _ (s : List ℕ) where
   pub judged-accepted : {r : Reading} (h : Head) → Judged s r → r ≡ R.Accepted h → (h ≡ headOf s) × RunAccepted s
   judged-accepted h j e = let same = head-is h j e in (same, subst (λ h. Judged s (R.Accepted h)) same (subst (Judged s) e j))
 
-  pub ready-tables : {cs ps ns ks : List ℕ} {r : Reading} (h : Head) → Ready s cs ps ns ks r → r ≡ R.Accepted h → Tables s cs ps ns ks
-  ready-tables {cs} {ps} {ns} {ks} h w e = subst (Ready s cs ps ns ks) e w
-
-  pub tables-listed : {cs ps ns ks : List ℕ} → Tables s cs ps ns ks → Listed s cs ps
-  tables-listed w = record { read = w .read; index = w .index; long = w .places-long }
+  pub ready-tables : {ix : List ℕ} {r : Reading} (h : Head) → Ready s ix r → r ≡ R.Accepted h → Tables s ix
+  ready-tables {ix} h w e = subst (Ready s ix) e w
 
 -- ---- the condition
 
@@ -68,21 +70,44 @@ module _ (s c : List ℕ) (head : Head) (same : head ≡ headOf s) {r : D.Readin
   pub condition-refused : (x : Refusal) → r ≡ C.Refused x → readOf c (headOf s) ≡ refused x
   condition-refused x e = refused-by (readOf c (headOf s)) x beside e
 
-  pub condition-given : {cs ps ns ks : List ℕ} (k : ℕ) → Tables s cs ps ns ks → r ≡ C.Accepted k → length qs ≡ 32 → Given s c cs ps ns ks qs k
-  condition-given k w e long =
-      let a = accepted-by (readOf c (headOf s)) k beside e in
-      record { tables = w; read = a .0; counted = a .1; placed = a .2; long = long }
+  module _ (k : ℕ) (told : r ≡ C.Accepted k) (long : length qs ≡ 32) where
+    accepted-there : (readOf c (headOf s) ≡ accepted (placesIn (readOf c (headOf s)))) × (k ≡ length (placesIn (readOf c (headOf s)))) × ((i : ℕ) → i < k → getD qs i 0 ≡ getD (placesIn (readOf c (headOf s))) i 0)
+    accepted-there = accepted-by (readOf c (headOf s)) k beside told
+
+    -- the row has room for the clauses
+    pub clauses-few : k ≤ length qs
+    clauses-few = omega (arith, long, accepted-there .1, condition-known c (headOf s) (placesIn (readOf c (headOf s))) (accepted-there .0) .few)
+
+    pub condition-prepared : {ix : List ℕ} → RunAccepted s → Tables s ix → Prepared s c ix (take k qs)
+    condition-prepared j w = record { both = record { run = j; cond = a .0 }; tables = w; places = ext-getD 0 (take k qs) (placesIn (readOf c (headOf s))) (l ∙ a .1) each }
+      where
+        a : (readOf c (headOf s) ≡ accepted (placesIn (readOf c (headOf s)))) × (k ≡ length (placesIn (readOf c (headOf s)))) × ((i : ℕ) → i < k → getD qs i 0 ≡ getD (placesIn (readOf c (headOf s))) i 0)
+        a = accepted-there
+
+        l : length (take k qs) ≡ k
+        l = length-take-le k qs clauses-few
+
+        each : (i : ℕ) → i < length (take k qs) → getD (take k qs) i 0 ≡ getD (placesIn (readOf c (headOf s))) i 0
+        each i h = let m : i < k = omega (arith, l) in getD-take k qs i 0 m ∙ a .2 i m
 
 -- ---- the elimination
 
-module _ {s c cut : List ℕ} where
-  pub searched-found : {a : E.Answer} → Searched s c cut a → a ≡ S.Found → First (runIn s) (clausesFor s c) cut
-  searched-found (found w) e = w
+module _ {s c ix qs : List ℕ} (p : Prepared s c ix qs) where
+  pub given : Given s c ix qs
+  given = record { tables = p .tables; known = subst (Known c (headOf s)) (sym (p .places)) (condition-known c (headOf s) (placesIn (readOf c (headOf s))) (p .both .cond)) }
+
+  -- the clauses at the places are the condition's
+  pub clauses-are : clausesOf c qs ≡ clausesFor s c
+  unfolding clausesIn
+  clauses-are = ap (clausesOf c) (p .places)
+
+  pub searched-found : {cut : List ℕ} {a : E.Answer} → Searched (runIn s) (clausesOf c qs) cut a → a ≡ S.Found → First (runIn s) (clausesFor s c) cut
+  searched-found {cut} (found w) e = subst (λ k. First (runIn s) k cut) clauses-are w
   searched-found (nowhere w) e = absurd (let z : _≡_ {A = ℕ} 0 1 = cc in omega arith)
 
-  pub searched-nowhere : {a : E.Answer} → Searched s c cut a → a ≡ S.Nowhere → (d : List ℕ) → ¬ Satisfies (runIn s) (clausesFor s c) d
+  pub searched-nowhere : {cut : List ℕ} {a : E.Answer} → Searched (runIn s) (clausesOf c qs) cut a → a ≡ S.Nowhere → (d : List ℕ) → ¬ Satisfies (runIn s) (clausesFor s c) d
   searched-nowhere (found w) e = absurd (let z : _≡_ {A = ℕ} 0 1 = cc in omega arith)
-  searched-nowhere (nowhere w) e = w
+  searched-nowhere (nowhere w) e = subst (λ k. (d : List ℕ) → ¬ Satisfies (runIn s) k d) clauses-are w
 
 -- the front of a row of equal numbers
 pub take-replicate : (k n x : ℕ) → k ≤ n → take k (replicate n x) ≡ replicate k x

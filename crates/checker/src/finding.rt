@@ -19,8 +19,8 @@ ghost use Rattle.model.specs.Run.{processes};
 ghost use Rattle.record.specs.Record.{headOf};
 ghost use Rattle.run.specs.Said.{runIn};
 ghost use Rattle.run.specs.Tables.{Tables};
-ghost use Rattle.search.specs.Search.{Given};
-ghost use Rattle.checker.specs.Accepted.{RunAccepted, Both};
+ghost use Rattle.checker.specs.Accepted.{RunAccepted};
+ghost use Rattle.checker.specs.Inner.{Prepared};
 ghost use Rattle.checker.specs.Answered.{Wrote, Answered};
 
 // The cut into the first lent places.
@@ -38,24 +38,20 @@ fn write(cut: &[u16], lent: &mut [u16])
 // The cut is sought in a row of its own, so that no lent place changes unless it is found; 18 comes last.
 fn search_in(
     run: &[u8],
-    counts: &[u16],
-    places: &[u16],
-    partners: &[u16],
-    clocks: &[u16],
+    index: &[u16],
     cond: &[u8],
     clauses: &[u16],
-    k: u16,
     cut: &mut [u16],
     lent: &mut [u16],
 ) -> Answer
-    requires { ⌜ Both (now run) (now cond) × Given (now run) (now cond) (now counts) (now places) (now partners) (now clocks) (now clauses) k × (now cut ≡ replicate (processes (runIn (now run))) 1) × (headOf (now run) .processes ≤ length (now lent)) ⌝ }
+    requires { ⌜ Prepared (now run) (now cond) (now index) (now clauses) × (now cut ≡ replicate (processes (runIn (now run))) 1) × (headOf (now run) .processes ≤ length (now lent)) ⌝ }
     ensures { λ r. ⌜ Answered (now (run .entry)) (now (cond .entry)) (now (lent .entry)) (now (lent .exit)) r ⌝ }
 {
-    let answer = search(run, counts, places, partners, clocks, cond, clauses, k, cut);
+    let answer = search(run, index, cond, clauses, cut);
     let Searched::Found = answer else {
         return Answer::Nowhere;
     };
-    if has_early(run, places, partners, cut) {
+    if has_early(run, index, cut) {
         return Answer::Refused(refusal_of(File::Run, EARLY, 0));
     }
     write(cut, lent);
@@ -65,17 +61,13 @@ fn search_in(
 // 15 comes before the search.
 fn search_for(
     run: &[u8],
-    counts: &[u16],
-    places: &[u16],
-    partners: &[u16],
-    clocks: &[u16],
+    index: &[u16],
     cond: &[u8],
     clauses: &[u16],
-    k: u16,
     n: u16,
     lent: &mut [u16],
 ) -> Answer
-    requires { ⌜ Both (now run) (now cond) × Given (now run) (now cond) (now counts) (now places) (now partners) (now clocks) (now clauses) k × (n ≡ headOf (now run) .processes) ⌝ }
+    requires { ⌜ Prepared (now run) (now cond) (now index) (now clauses) × (n ≡ headOf (now run) .processes) ⌝ }
     ensures { λ r. ⌜ Answered (now (run .entry)) (now (cond .entry)) (now (lent .entry)) (now (lent .exit)) r ⌝ }
 {
     let size = n as usize;
@@ -83,50 +75,22 @@ fn search_for(
         return Answer::Refused(refusal_of(File::Run, NO_ROOM, 0));
     }
     let mut row = [1u16; 8];
-    search_in(
-        run,
-        counts,
-        places,
-        partners,
-        clocks,
-        cond,
-        clauses,
-        k,
-        &mut row[..size],
-        lent,
-    )
+    search_in(run, index, cond, clauses, &mut row[..size], lent)
 }
 
 // Beside an accepted run.
-fn with_condition(
-    run: &[u8],
-    counts: &[u16],
-    places: &[u16],
-    partners: &[u16],
-    clocks: &[u16],
-    cond: &[u8],
-    head: Head,
-    lent: &mut [u16],
-) -> Answer
-    requires { ⌜ RunAccepted (now run) × Tables (now run) (now counts) (now places) (now partners) (now clocks) × (head ≡ headOf (now run)) ⌝ }
+fn with_condition(run: &[u8], index: &[u16], cond: &[u8], head: Head, lent: &mut [u16]) -> Answer
+    requires { ⌜ RunAccepted (now run) × Tables (now run) (now index) × (head ≡ headOf (now run)) ⌝ }
     ensures { λ r. ⌜ Answered (now (run .entry)) (now (cond .entry)) (now (lent .entry)) (now (lent .exit)) r ⌝ }
 {
     let mut clauses = [0u16; 32];
     let reading = read_condition(cond, head, &mut clauses);
     match reading {
         ConditionReading::Refused(refusal) => Answer::Refused(refusal),
-        ConditionReading::Accepted(k) => search_for(
-            run,
-            counts,
-            places,
-            partners,
-            clocks,
-            cond,
-            &clauses,
-            k,
-            head.processes,
-            lent,
-        ),
+        ConditionReading::Accepted(k) => {
+            let size = k as usize;
+            search_for(run, index, cond, &clauses[..size], head.processes, lent)
+        }
     }
 }
 
@@ -134,22 +98,10 @@ fn with_condition(
 pub fn first_cut(run: &[u8], cond: &[u8], lent: &mut [u16]) -> Answer
     ensures { λ r. ⌜ Answered (now (run .entry)) (now (cond .entry)) (now (lent .entry)) (now (lent .exit)) r ⌝ }
 {
-    let mut counts = [0u16; 8];
-    let mut places = [0u16; 4096];
-    let mut partners = [0u16; 4096];
-    let mut clocks = [0u16; 32768];
-    let reading = judge_run(run, &mut counts, &mut places, &mut partners, &mut clocks);
+    let mut index = [0u16; 40968];
+    let reading = judge_run(run, &mut index);
     match reading {
         Reading::Refused(refusal) => Answer::Refused(refusal),
-        Reading::Accepted(head) => with_condition(
-            run,
-            &counts,
-            &places,
-            &partners,
-            &clocks,
-            cond,
-            head,
-            lent,
-        ),
+        Reading::Accepted(head) => with_condition(run, &index, cond, head, lent),
     }
 }

@@ -15,45 +15,36 @@ ghost use lib.ListN.{length};
 ghost use Rattle.model.specs.Cut.{IsCut};
 ghost use Rattle.record.specs.Record.{headOf};
 ghost use Rattle.run.specs.Said.{runIn};
-ghost use Rattle.run.specs.Tables.{Listed};
-ghost use Rattle.cut.specs.Lent.{Lent};
+ghost use Rattle.run.specs.Tables.{Tables};
 ghost use Rattle.checker.specs.Accepted.{RunAccepted};
 ghost use Rattle.checker.specs.Answered.{Wrote};
 ghost use Rattle.checker.specs.Questions.{onEach, AskedEach};
 
 // The number of messages on each channel into the first lent places.
-fn list(run: &[u8], places: &[u16], partners: &[u16], cut: &[u16], channels: u16, lent: &mut [u16])
-    requires { ⌜ Lent (now run) (now places) (now partners) × IsCut (runIn (now run)) (now cut) × (channels ≡ headOf (now run) .channels) × (channels ≤ length (now lent)) ⌝ }
+fn list(run: &[u8], index: &[u16], cut: &[u16], channels: u16, lent: &mut [u16])
+    requires { ⌜ Tables (now run) (now index) × IsCut (runIn (now run)) (now cut) × (channels ≡ headOf (now run) .channels) × (channels ≤ length (now lent)) ⌝ }
     ensures { λ _. ⌜ Wrote (onEach (now (run .entry)) (now (cut .entry))) (now (lent .entry)) (now (lent .exit)) ⌝ }
 {
     let mut channel: u16 = 0;
     while channel < channels {
         let i = channel as usize;
-        lent[i] = in_transit(run, places, partners, cut, channel) as u16;
+        lent[i] = in_transit(run, index, cut, channel) as u16;
         channel += 1;
     }
 }
 
 // Of an accepted run: 16, 15, or the numbers.
-fn list_in(
-    run: &[u8],
-    counts: &[u16],
-    places: &[u16],
-    partners: &[u16],
-    cut: &[u16],
-    head: Head,
-    lent: &mut [u16],
-) -> Counts
-    requires { ⌜ Listed (now run) (now counts) (now places) × Lent (now run) (now places) (now partners) × RunAccepted (now run) × (head ≡ headOf (now run)) ⌝ }
+fn list_in(run: &[u8], index: &[u16], cut: &[u16], head: Head, lent: &mut [u16]) -> Counts
+    requires { ⌜ Tables (now run) (now index) × RunAccepted (now run) × (head ≡ headOf (now run)) ⌝ }
     ensures { λ r. ⌜ AskedEach (now (run .entry)) (now (cut .entry)) (now (lent .entry)) (now (lent .exit)) r ⌝ }
 {
-    if !cut_is(counts, cut, head.processes) {
+    if !cut_is(index, cut, head.processes) {
         return Counts::Refused(refusal_of(File::Run, CUT, 0));
     }
     if lent.len() < head.channels as usize {
         return Counts::Refused(refusal_of(File::Run, NO_ROOM, 0));
     }
-    list(run, places, partners, cut, head.channels, lent);
+    list(run, index, cut, head.channels, lent);
     Counts::Listed
 }
 
@@ -61,13 +52,10 @@ fn list_in(
 pub fn messages_on_each(run: &[u8], cut: &[u16], lent: &mut [u16]) -> Counts
     ensures { λ r. ⌜ AskedEach (now (run .entry)) (now (cut .entry)) (now (lent .entry)) (now (lent .exit)) r ⌝ }
 {
-    let mut counts = [0u16; 8];
-    let mut places = [0u16; 4096];
-    let mut partners = [0u16; 4096];
-    let mut clocks = [0u16; 32768];
-    let reading = judge_run(run, &mut counts, &mut places, &mut partners, &mut clocks);
+    let mut index = [0u16; 40968];
+    let reading = judge_run(run, &mut index);
     match reading {
         Reading::Refused(refusal) => Counts::Refused(refusal),
-        Reading::Accepted(head) => list_in(run, &counts, &places, &partners, cut, head, lent),
+        Reading::Accepted(head) => list_in(run, &index, cut, head, lent),
     }
 }

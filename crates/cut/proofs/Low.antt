@@ -69,8 +69,8 @@ module _ (clock : ℕ → ℕ → ℕ → ℕ) (cut : List ℕ) where
         let h = consistent-by-clock r clock cut rule is .0 ok i j (omega (arith, is .size, w .process)) (omega (arith, is .size, w .other)) (w .apart) in
         omega (arith, w .low)
 
--- a cut of an accepted run has its entries in the tables
-pub cut-in-table : {s cs ps ns ks : List ℕ} → Tables s cs ps ns ks → (cut : List ℕ) → IsCut (runIn s) cut → InTable cut
+-- a cut of an accepted run has its entries in the index
+pub cut-in-table : {s ix : List ℕ} → Tables s ix → (cut : List ℕ) → IsCut (runIn s) cut → InTable cut
 cut-in-table w cut is = record {
   few = omega (arith, is .size, processes-few w);
   counted = λ j h. is .states j (omega (arith, is .size)) .counted;

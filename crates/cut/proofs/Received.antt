@@ -1,4 +1,4 @@
--- Refusal 18: a receive up to the cut whose send is past it, by the partners in the table.
+-- Refusal 18: a receive up to the cut whose send is past it, by the partners in the index.
 use mathlib.Core.Path.{_≡_, sym, ap, _∙_, subst}
 use mathlib.Core.Logic.{⊎-elim, _≢_}
 use mathlib.Core.Bool.{true, false}
@@ -14,12 +14,8 @@ use Rattle.model.specs.declared.Event.the-variants.{Receive}
 use Rattle.model.specs.Run.{Run, into, channel, IsState, Known}
 use Rattle.model.specs.Cut.{at, IsCut, ByMessage}
 use Rattle.model.proofs.Pairing.{view, from-end, one-send, received-there, process-there}
-use Rattle.run.specs.Tables.{slot, Partnered, Placed}
-use Rattle.cut.specs.Lent.{Lent}
+use Rattle.run.specs.Tables.{partnerAt, Partnered}
 use Rattle.cut.specs.Early.{InTime, PastIs, EarlyInIs, EarlyIs}
-
-pub lent-placed : {s ps ns : List ℕ} → Lent s ps ns → Placed s ps
-lent-placed w = record { read = w .tables .read; few = w .tables .index .few; placed = w .tables .index .placed; long = w .tables .places-long }
 
 -- ---- one state
 
@@ -30,7 +26,7 @@ module _ (r : Run) (cut : List ℕ) (p k : ℕ) where
 
   -- its partner is the state that the send leads into, and the channel says of which process
   pub past-receive : Known r → (ns : List ℕ) → Partnered r ns → (m : Message) → into r p k ≡ Receive m → (f : ℕ) → f ≡ channel r (m .channel) .from
-      → PastIs r cut p k (ltb (at cut f) (getD ns (slot p k) 0))
+      → PastIs r cut p k (ltb (at cut f) (getD ns (partnerAt p k) 0))
   unfolding InTime
   past-receive known ns w m e f g =
       let (i, l, q) = known .origin p k m e in
@@ -43,8 +39,8 @@ module _ (r : Run) (cut : List ℕ) (p k : ℕ) where
             let (i′, l′, q′, le) = h m e in
             let u = one-send r known q q′ in
             let also : at cut i ≡ at cut i′ = ap (at cut) (u .0) in
-            omega (arith, ltb-true (at cut f) (getD ns (slot p k) 0) z, w .received i l p k q, u .1, le, also, there);
-        in-time = λ z m′ e′. (i, l, q, omega (arith, ltb-false (at cut f) (getD ns (slot p k) 0) z, w .received i l p k q, there));
+            omega (arith, ltb-true (at cut f) (getD ns (partnerAt p k) 0) z, w .received i l p k q, u .1, le, also, there);
+        in-time = λ z m′ e′. (i, l, q, omega (arith, ltb-false (at cut f) (getD ns (partnerAt p k) 0) z, w .received i l p k q, there));
       }
 
 -- ---- the states of one process

@@ -11,13 +11,13 @@ use borrow.Author.Tests.{eq-eqb, ne-eqb, eqb-true, eqb-false, ltb-true, ltb-fals
 use lib.Dec.{T, eqb, ltb}
 use lib.ListN.{length, getD}
 use Rattle.model.specs.declared.Message.{Message}
-use Rattle.model.specs.Run.{Run, state, count, into, channel, sending, Paired}
+use Rattle.model.specs.Run.{Run, state, into, channel, IsState, sending, Paired}
 use Rattle.model.specs.Cut.{onChannel, sends, waiting, add, between}
 use Rattle.model.proofs.Messages.{arrived, arrived-at, at-arrived, sends-send}
 use Rattle.record.specs.Record.{fieldsAt}
 use Rattle.run.specs.States.{stateAt, eventOf}
 use Rattle.run.specs.Said.{runIn}
-use Rattle.run.specs.Tables.{slot, Partnered, Tables}
+use Rattle.run.specs.Tables.{placeAt, partnerAt, Partnered, Tables}
 use Rattle.cut.specs.declared.Tally.{Tally}
 use Rattle.cut.specs.Tally.{countOf, tallyOf}
 use Rattle.cut.proofs.Stored.{stored}
@@ -30,7 +30,7 @@ module _ (r : Run) (ns : List ℕ) (w : Partnered r ns) (c b k : ℕ) where
   j = channel r c .to
 
   abbrev partner : ℕ
-  partner = getD ns (slot i k) 0
+  partner = getD ns (partnerAt i k) 0
 
   pub still-waiting : (partner ≡ 0) ⊎ (b < partner) → waiting r c b k ≡ sends r c k
   unfolding waiting
@@ -52,7 +52,7 @@ module _ (r : Run) (ns : List ℕ) (w : Partnered r ns) (c b k : ℕ) where
           let (x, g) = sends-send r c k m e in
           absurd (⊎-elim (λ z. omega arith) (λ z. a (subst (λ h. Paired r i k (channel r h .to) partner) g z)) (w .backed i k m x))
 
--- ---- by the tables, with the code's index and test
+-- ---- by the index, with the code's test
 
 past-or-none : (p b : ℕ) → (eqb p 0 || ltb b p) ≡ true → (p ≡ 0) ⊎ (b < p)
 past-or-none p b e = go (eqb p 0) refl e
@@ -71,22 +71,24 @@ up-to p b e = go (eqb p 0) refl e
     go true a e = absurd (let z : _≡_ {A = ℕ} 0 1 = cc in omega arith)
     go false a e = (positive p (eqb-false p 0 a), ltb-false b p e)
 
-module _ {s cs ps ns ks : List ℕ} (w : Tables s cs ps ns ks) (c from b k : ℕ) (own : from ≡ channel (runIn s) c .from) (h : k < count (runIn s) from) where
-  -- what state k + 1 of the channel's sender sends on it
-  stored-sends : sends (runIn s) c (suc k) ≡ onChannel c (sending (eventOf (fieldsAt s (getD ps (512 * from + k) 0))))
+module _ {s ix : List ℕ} (w : Tables s ix) (c from b k : ℕ) (own : from ≡ channel (runIn s) c .from) (is : IsState (runIn s) from k) where
+  -- what state k of the channel's sender sends on it
+  stored-sends : sends (runIn s) c k ≡ onChannel c (sending (eventOf (fieldsAt s (getD ix (placeAt from k) 0))))
   unfolding sends into stateAt
-  stored-sends = ap (λ p. onChannel c (sending (state (runIn s) p (suc k) .event))) (sym own) ∙ ap (λ v. onChannel c (sending (v .event))) (stored w from k h .state)
+  stored-sends = ap (λ p. onChannel c (sending (state (runIn s) p k .event))) (sym own) ∙ ap (λ v. onChannel c (sending (v .event))) (stored w from k is .state)
 
-  partner-at : slot (channel (runIn s) c .from) (suc k) ≡ 512 * from + k
+  partner-at : partnerAt (channel (runIn s) c .from) k ≡ partnerAt from k
   partner-at = omega (arith, own)
 
-  pub waiting-by : (t : Bool) → (eqb (getD ns (512 * from + k) 0) 0 || ltb b (getD ns (512 * from + k) 0)) ≡ t
-      → waiting (runIn s) c b (suc k) ≡ cond t (onChannel c (sending (eventOf (fieldsAt s (getD ps (512 * from + k) 0))))) none
-  waiting-by true e =
-      still-waiting (runIn s) ns (w .partners) c b (suc k) (subst (λ n. (getD ns n 0 ≡ 0) ⊎ (b < getD ns n 0)) (sym partner-at) (past-or-none _ b e)) ∙ stored-sends
-  waiting-by false e =
-      let (p, q) = up-to _ b e in
-      not-waiting (runIn s) ns (w .partners) c b (suc k) (subst (λ n. 1 ≤ getD ns n 0) (sym partner-at) p) (subst (λ n. getD ns n 0 ≤ b) (sym partner-at) q)
+  pub waiting-by : (t : Bool) (n q : ℕ) → n ≡ getD ix (partnerAt from k) 0 → q ≡ getD ix (placeAt from k) 0 → (eqb n 0 || ltb b n) ≡ t
+      → waiting (runIn s) c b k ≡ cond t (onChannel c (sending (eventOf (fieldsAt s q)))) none
+  waiting-by true n q a d e =
+      still-waiting (runIn s) ix (w .partners) c b k (subst (λ n. (n ≡ 0) ⊎ (b < n)) (a ∙ ap (λ x. getD ix x 0) (sym partner-at)) (past-or-none n b e))
+      ∙ stored-sends ∙ ap (λ q. onChannel c (sending (eventOf (fieldsAt s q)))) (sym d)
+  waiting-by false n q a d e =
+      let (x, y) = up-to n b e in
+      let z = a ∙ ap (λ x. getD ix x 0) (sym partner-at) in
+      not-waiting (runIn s) ix (w .partners) c b k (subst (λ n. 1 ≤ n) z x) (subst (λ n. n ≤ b) z y)
 
 -- ---- tallies
 
@@ -109,19 +111,20 @@ module _ (f : Message → Bool) where
 
   module _ (r : Run) (c b k : ℕ) where
     -- one state more
-    pub tally-more : (n m : ℕ) (more : Tally) → record { count = n; matching = m } ≡ tallyOf f (between r c k b) → more ≡ tallyOf f (add (waiting r c b (suc k)) [])
+    pub tally-more : (n m : ℕ) (more : Tally) → record { count = n; matching = m } ≡ tallyOf f (between r c k b) → more ≡ tallyOf f (add (waiting r c b (k + 1)) [])
         → record { count = n + more .count; matching = m + more .matching } ≡ tallyOf f (between r c (k + 1) b)
     unfolding tallyOf between
-    tally-more n m more e g =
+    tally-more n m more e g′ =
+        let g : more ≡ tallyOf f (add (waiting r c b (suc k)) []) = rw add-one at g′ in
         let o = waiting r c b (suc k) in
         let ms = between r c k b in
         rw add-one (tally-parts
         (ap (λ (t : Tally). t .count + more .count) e ∙ ap (λ (t : Tally). length ms + t .count) g ∙ length-add o ms)
         (ap (λ (t : Tally). t .matching + more .matching) e ∙ ap (λ (t : Tally). countOf f ms + t .matching) g ∙ count-add o ms))
 
-    pub tally-same : waiting r c b (suc k) ≡ none → tallyOf f (between r c k b) ≡ tallyOf f (between r c (k + 1) b)
+    pub tally-same : waiting r c b (k + 1) ≡ none → tallyOf f (between r c k b) ≡ tallyOf f (between r c (k + 1) b)
     unfolding between
-    tally-same e = rw (add-one, e) refl
+    tally-same e = let g : waiting r c b (suc k) ≡ none = rw add-one at e in rw (add-one, g) refl
 
 -- ---- what one event sends on a channel
 

@@ -1,4 +1,3 @@
 pub mod Tally
-pub mod Lent
 pub mod Clocks
 pub mod Early

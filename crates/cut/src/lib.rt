@@ -1,4 +1,4 @@
-// At a cut of an accepted run: who is behind another's clock, what is in transit on a channel, and whether a clause holds. Every answer comes from the tables.
+// At a cut of an accepted run: who is behind another's clock, what is in transit on a channel, and whether a clause holds. Every answer comes from the index.
 pub mod clocks;
 pub mod compare;
 pub mod early;

@@ -1,7 +1,7 @@
 // Local clauses: a value of a state, compared.
 use crate::compare::compares;
 use record::bytes::i32_at;
-use run::slots::place_of;
+use run::index::place_of;
 ghost use mathlib.Core.Path.{_≡_};
 ghost use Prim.Native.Nat.{_<_};
 ghost use lib.IntN.{pos};
@@ -9,23 +9,23 @@ ghost use lib.ListN.{getD};
 ghost use Rattle.model.specs.Run.{state, IsState};
 ghost use Rattle.model.specs.Clause as M;
 ghost use Rattle.run.specs.Said.{runIn};
+ghost use Rattle.run.specs.Tables.{Tables};
 ghost use Rattle.condition.specs.Clauses.{comparisonOf};
-ghost use Rattle.cut.specs.Lent.{Placed};
 
 // A state's values follow 18 bytes, four bytes each.
 pub fn local_holds(
     run: &[u8],
-    places: &[u16],
+    index: &[u16],
     process: u16,
     value: u16,
     k: u16,
     comparison: u16,
     constant: i32,
 ) -> bool
-    requires { ⌜ Placed (now run) (now places) × IsState (runIn (now run)) process k × (value < 4) ⌝ }
+    requires { ⌜ Tables (now run) (now index) × IsState (runIn (now run)) process k × (value < 4) ⌝ }
     ensures { λ r. ⌜ r ≡ M.compares (comparisonOf comparison) (getD (state (runIn (now (run .entry))) process k .values) value (pos 0)) constant ⌝ }
 {
-    let at = place_of(places, process, k) + 18 + 4 * (value as usize);
+    let at = place_of(index, process, k) + 18 + 4 * (value as usize);
     let held = i32_at(run, at);
     compares(comparison, held, constant)
 }

@@ -4,6 +4,8 @@ use crate::compare::compares;
 use crate::tests::comparison_for;
 use model::Event;
 use record::bytes::signed_of;
+use run::index::partner_of;
+use run::index::place_of;
 use run::states::state_at;
 ghost use mathlib.Core.Path.{_≡_};
 ghost use mathlib.Core.List.{[]};
@@ -15,9 +17,9 @@ ghost use Rattle.model.specs.Cut.{add, onChannel, between};
 ghost use Rattle.record.specs.Record.{fieldsAt};
 ghost use Rattle.run.specs.States.{eventOf};
 ghost use Rattle.run.specs.Said.{runIn};
+ghost use Rattle.run.specs.Tables.{Tables};
 ghost use Rattle.condition.specs.Clauses.{comparisonOf};
 ghost use Rattle.cut.specs.Tally.{stamped, tallyOf, asked};
-ghost use Rattle.cut.specs.Lent.{Lent};
 
 // What the state at a place sends on a channel, which is at most one message.
 fn sent_at(run: &[u8], place: usize, channel: u16, comparison: u16, x: i32) -> Tally
@@ -54,8 +56,7 @@ fn sent_at(run: &[u8], place: usize, channel: u16, comparison: u16, x: i32) -> T
 // A send whose partner is 0 is received nowhere, and one whose partner is past b only later.
 pub fn tally(
     run: &[u8],
-    places: &[u16],
-    partners: &[u16],
+    index: &[u16],
     channel: u16,
     from: u16,
     a: u16,
@@ -63,17 +64,16 @@ pub fn tally(
     comparison: u16,
     x: i32,
 ) -> Tally
-    requires { ⌜ Lent (now run) (now places) (now partners) × (from ≡ Run.channel (runIn (now run)) channel .from) × (a ≤ count (runIn (now run)) from) ⌝ }
+    requires { ⌜ Tables (now run) (now index) × (from ≡ Run.channel (runIn (now run)) channel .from) × (a ≤ count (runIn (now run)) from) ⌝ }
     ensures { λ r. ⌜ r ≡ tallyOf (stamped (comparisonOf comparison) x) (between (runIn (now (run .entry))) channel a b) ⌝ }
 {
-    let row = 512 * (from as usize);
     let mut count: usize = 0;
     let mut matching: usize = 0;
-    let mut k: usize = 0;
-    while k < a as usize {
-        let partner = partners[row + k];
+    let mut k: u16 = 0;
+    while k < a {
+        let partner = partner_of(index, from, k + 1);
         if (partner == 0) | (b < partner) {
-            let place = places[row + k] as usize;
+            let place = place_of(index, from, k + 1);
             let more = sent_at(run, place, channel, comparison, x);
             count += more.count;
             matching += more.matching;
@@ -86,8 +86,7 @@ pub fn tally(
 // The tally that a channel test asks for.
 pub fn tally_for(
     run: &[u8],
-    places: &[u16],
-    partners: &[u16],
+    index: &[u16],
     channel: u16,
     from: u16,
     a: u16,
@@ -95,10 +94,10 @@ pub fn tally_for(
     test: u16,
     operand: u32,
 ) -> Tally
-    requires { ⌜ Lent (now run) (now places) (now partners) × (from ≡ Run.channel (runIn (now run)) channel .from) × (a ≤ count (runIn (now run)) from) ⌝ }
+    requires { ⌜ Tables (now run) (now index) × (from ≡ Run.channel (runIn (now run)) channel .from) × (a ≤ count (runIn (now run)) from) ⌝ }
     ensures { λ r. ⌜ r ≡ tallyOf (asked test operand) (between (runIn (now (run .entry))) channel a b) ⌝ }
 {
     let comparison = comparison_for(test);
     let x = signed_of(operand);
-    tally(run, places, partners, channel, from, a, b, comparison, x)
+    tally(run, index, channel, from, a, b, comparison, x)
 }

@@ -24,7 +24,7 @@ use Rattle.model.proofs.Clock.{clock-own, clock-first, clock-step, clock-receiv
 use Rattle.record.specs.Bytes.{u16At}
 use Rattle.record.specs.Record.{headOf}
 use Rattle.run.specs.Said.{runIn, placeOf}
-use Rattle.run.specs.Tables.{slot, clockIn, Partnered}
+use Rattle.run.specs.Tables.{slot, partnerAt, clockRow, clockIn, Partnered}
 use Rattle.judging.specs.Order.{AheadIs, numberAt, numberOf, Written, Sound, Waits, Advanced, total, Swept, Ordered, Compared, FirstOf, FirstsTo}
 use Rattle.judging.specs.Order.AheadIs.{nothing, sent}
 use Rattle.judging.proofs.Firsts.{Firsts}
@@ -40,17 +40,17 @@ module _ (r : Run) (known : Known r) where
       ⊎-elim (λ h. h) (λ h. let e : k ≡ 1 = omega (arith, s .counted) in absurd (send-start (sym (view p .send) ∙ ap (into r i) e ∙ first-start r known i))) (le-or-lt 2 k)
 
   module _ (ns : List ℕ) (w : Partnered r ns) (p k : ℕ) (m : Message) (e : into r p k ≡ Receive m) where
-    pub ahead-later : 2 ≤ getD ns (slot p k) 0
+    pub ahead-later : 2 ≤ getD ns (partnerAt p k) 0
     ahead-later = let (i, l, q) = known .origin p k m e in omega (arith, w .received i l p k q, sent-later q)
 
-    pub ahead-receive : (f : ℕ) → f ≡ channel r (m .channel) .from → AheadIs r p k f (getD ns (slot p k) 0 - 1)
+    pub ahead-receive : (f : ℕ) → f ≡ channel r (m .channel) .from → AheadIs r p k f (getD ns (partnerAt p k) 0 - 1)
     ahead-receive f g =
         let (i, l, q) = known .origin p k m e in
         let v = view q in
         let same : v .received ≡ m = cc (v .receive, e) in
         let from : i ≡ f = sym (from-end r known v) ∙ ap (λ n. channel r (n .channel) .from) same ∙ sym g in
-        let number : l ≡ suc (getD ns (slot p k) 0 - 1) = omega (arith, w .received i l p k q, ahead-later) in
-        sent (omega (arith, ahead-later)) (subst (λ i. Paired r i (suc (getD ns (slot p k) 0 - 1)) p k) from (subst (λ l. Paired r i l p k) number q))
+        let number : l ≡ suc (getD ns (partnerAt p k) 0 - 1) = omega (arith, w .received i l p k q, ahead-later) in
+        sent (omega (arith, ahead-later)) (subst (λ i. Paired r i (suc (getD ns (partnerAt p k) 0 - 1)) p k) from (subst (λ l. Paired r i l p k) number q))
 
   -- it is another process's state, where there is one
   pub ahead-apart : {p k i l : ℕ} → AheadIs r p k i l → l ≢ 0 → i ≢ p
@@ -75,7 +75,7 @@ pub number-other : (ks : List ℕ) (p k i l x a b n : ℕ) → x ≢ p → a ≡
 unfolding numberOf
 number-other ks p k i l x a b n d e f g = simp (ne-eqb x p d) (g ∙ ap (λ a. max a b) e ∙ ap (max (numberAt ks p (k - 1) x)) f)
 
-module _ (p k i l : ℕ) (clocks : List ℕ) (long : length clocks ≡ 32768) (row : p < 8) (counted : 1 ≤ k) (few : k ≤ 512) where
+module _ (p k i l : ℕ) (clocks : List ℕ) (long : length clocks ≡ 40968) (row : p < 8) (counted : 1 ≤ k) (few : k ≤ 512) where
   pub written-start : Written 0 p k i l clocks clocks
   written-start = record { row = λ x h. absurd (omega arith); rest = λ x h. refl }
 
@@ -85,10 +85,10 @@ module _ (p k i l : ℕ) (clocks : List ℕ) (long : length clocks ≡ 32768) (r
   unfolding numberOf
   number-same at other n clocks′ w x h = ap (cond (eqb x p) k) (ap (λ a. max a (numberAt clocks′ i l x)) own ∙ ap (max (numberAt clocks p (k - 1) x)) ahead)
     where
-      stays : (j m : ℕ) → (m ≢ 0 → (8 * slot j m + x < 8 * slot p k) ⊎ (8 * slot p k + 8 ≤ 8 * slot j m + x)) → numberAt clocks′ j m x ≡ numberAt clocks j m x
+      stays : (j m : ℕ) → (m ≢ 0 → (clockRow j m + x < clockRow p k) ⊎ (clockRow p k + 8 ≤ clockRow j m + x)) → numberAt clocks′ j m x ≡ numberAt clocks j m x
       stays j m outside = elim (ℕ-discrete m 0) [
         | yes e ↦ number-none clocks′ j m x e ∙ sym (number-none clocks j m x e)
-        | no d ↦ number-there clocks′ j m x d ∙ w .rest (8 * slot j m + x) (outside d) ∙ sym (number-there clocks j m x d)
+        | no d ↦ number-there clocks′ j m x d ∙ w .rest (clockRow j m + x) (outside d) ∙ sym (number-there clocks j m x d)
       ]
 
       own : numberAt clocks′ p (k - 1) x ≡ numberAt clocks p (k - 1) x
@@ -100,19 +100,19 @@ module _ (p k i l : ℕ) (clocks : List ℕ) (long : length clocks ≡ 32768) (r
       ahead : numberAt clocks′ i l x ≡ numberAt clocks i l x
       ahead = stays i l (λ d. ⊎-elim (λ g. inr (omega arith)) (λ g. inl (omega arith)) (split (other d)))
 
-  pub written-next : (at : l ≤ 512) (other : l ≢ 0 → i ≢ p) (n : ℕ) → n < 8 → (clocks′ : List ℕ) → length clocks′ ≡ 32768 → Written n p k i l clocks clocks′
-      → (v : ℕ) → v ≡ numberOf clocks′ p k i l n → Written (n + 1) p k i l clocks (set clocks′ (8 * slot p k + n) v)
+  pub written-next : (at : l ≤ 512) (other : l ≢ 0 → i ≢ p) (n : ℕ) → n < 8 → (clocks′ : List ℕ) → length clocks′ ≡ 40968 → Written n p k i l clocks clocks′
+      → (v : ℕ) → v ≡ numberOf clocks′ p k i l n → Written (n + 1) p k i l clocks (set clocks′ (clockRow p k + n) v)
   written-next at other n h clocks′ long′ w v q = record {
     row = λ x g. ⊎-elim
-        (λ e. subst (λ x. getD after (8 * slot p k + x) 0 ≡ numberOf clocks p k i l x) (sym e)
-        (getD-set-same clocks′ (8 * slot p k + n) _ 0 (omega arith) ∙ q ∙ number-same at other n clocks′ w n h))
-        (λ z. getD-set-other clocks′ (8 * slot p k + n) (8 * slot p k + x) _ 0 (λ e. absurd (omega arith)) ∙ w .row x z)
+        (λ e. subst (λ x. getD after (clockRow p k + x) 0 ≡ numberOf clocks p k i l x) (sym e)
+        (getD-set-same clocks′ (clockRow p k + n) _ 0 (omega arith) ∙ q ∙ number-same at other n clocks′ w n h))
+        (λ z. getD-set-other clocks′ (clockRow p k + n) (clockRow p k + x) _ 0 (λ e. absurd (omega arith)) ∙ w .row x z)
         (eq-or-lt-of-le (less x g));
-    rest = λ x g. getD-set-other clocks′ (8 * slot p k + n) x _ 0 (λ e. ⊎-elim (λ z. absurd (omega arith)) (λ z. absurd (omega arith)) g) ∙ w .rest x g;
+    rest = λ x g. getD-set-other clocks′ (clockRow p k + n) x _ 0 (λ e. ⊎-elim (λ z. absurd (omega arith)) (λ z. absurd (omega arith)) g) ∙ w .rest x g;
   }
     where
       after : List ℕ
-      after = set clocks′ (8 * slot p k + n) v
+      after = set clocks′ (clockRow p k + n) v
 
       less : (x : ℕ) → x < n + 1 → x ≤ n
       less x g = omega arith
@@ -197,13 +197,13 @@ module _ (r : Run) (known : Known r) (small : Small r) where
 
     -- the clocks of other states stay
     kept-clock : (j m x : ℕ) → IsState r j m → (j ≢ p) ⊎ (m < suc (getD done p 0)) → x < processes r → clockIn ks′ j m x ≡ clockIn ks j m x
-    kept-clock j m x t n g = v .rest (8 * slot j m + x) (apart-by (λ e. let u = slot-one r small t here e in ⊎-elim (λ k. k (u .0)) (λ k. absurd (omega (arith, u .1))) n) eighth)
+    kept-clock j m x t n g = v .rest (clockRow j m + x) (apart-by (λ e. let u = slot-one r small t here e in ⊎-elim (λ k. k (u .0)) (λ k. absurd (omega (arith, u .1))) n) eighth)
       where
         eighth : x < 8
         eighth = omega (arith, small x 1 (record { counted = omega arith; there = known .sides .peopled x g }))
 
         apart-by : slot j m ≢ slot p (suc (getD done p 0)) → x < 8
-            → (8 * slot j m + x < 8 * slot p (suc (getD done p 0))) ⊎ (8 * slot p (suc (getD done p 0)) + 8 ≤ 8 * slot j m + x)
+            → (clockRow j m + x < clockRow p (suc (getD done p 0))) ⊎ (clockRow p (suc (getD done p 0)) + 8 ≤ clockRow j m + x)
         apart-by n h = ⊎-elim (λ k. inl (omega arith)) (λ k. inr (omega arith)) (le-or-lt (suc (slot j m)) (slot p (suc (getD done p 0))))
 
     sound-next : Sound r done′ ks′
@@ -314,25 +314,22 @@ ordered s n done done′ ks b e w t = record {
     there : (j : ℕ) → getD done′ j 0 < count (runIn s) j → IsState (runIn s) j (suc (getD done′ j 0))
     there j g = record { counted = omega arith; there = g }
 
--- ---- clocks other than the table's
+-- ---- clocks other than the index's
 
-module _ (s ks : List ℕ) (right : Clocks (runIn s) (clockIn ks)) (p k q entry : ℕ) (place : q ≡ placeOf s p k) (here : entry ≡ slot p k) (t : IsState (runIn s) p k) where
+module _ (s ks : List ℕ) (right : Clocks (runIn s) (clockIn ks)) (p k q : ℕ) (place : q ≡ placeOf s p k) (t : IsState (runIn s) p k) where
   abbrev recorded : ℕ → ℕ
   recorded x = u16At s (q + 34 + 2 * x)
 
   abbrev listed : ℕ → ℕ
-  listed x = getD ks (8 * entry + x) 0
+  listed x = clockIn ks p k x
 
   same-place : (x : ℕ) → recorded x ≡ u16At s (placeOf s p k + 34 + 2 * x)
   same-place x = ap (λ q. u16At s (q + 34 + 2 * x)) place
 
-  same-entry : (x : ℕ) → listed x ≡ clockIn ks p k x
-  same-entry x = ap (λ i. getD ks (8 * i + x) 0) here
-
   pub compared-differs : (x y : ℕ) → x < processes (runIn s) → y ≡ recorded x → y ≢ listed x → Compared s p k true
   unfolding Clocks
   compared-differs x y h e n = record {
-    differs = λ z. record { place = x; there = h; wrong = λ c. n (e ∙ same-place x ∙ clock-unique c (right p k x t h) ∙ sym (same-entry x)) };
+    differs = λ z. record { place = x; there = h; wrong = λ c. n (e ∙ same-place x ∙ clock-unique c (right p k x t h)) };
     agrees = λ z. absurd (let z : _≡_ {A = ℕ} 0 1 = cc in omega arith);
   }
 
@@ -340,7 +337,7 @@ module _ (s ks : List ℕ) (right : Clocks (runIn s) (clockIn ks)) (p k q entry 
   unfolding Clocks
   compared-agrees n e w = record {
     differs = λ z. absurd (let z : _≡_ {A = ℕ} 0 1 = cc in omega arith);
-    agrees = λ z v. v .wrong (subst (ClockIs (runIn s) p k (v .place)) (sym (w (v .place) (omega (arith, e, v .there)) ∙ same-entry (v .place)) ∙ same-place (v .place)) (right p k (v .place) t (v .there)));
+    agrees = λ z v. v .wrong (subst (ClockIs (runIn s) p k (v .place)) (sym (w (v .place) (omega (arith, e, v .there))) ∙ same-place (v .place)) (right p k (v .place) t (v .there)));
   }
 
 module _ (s : List ℕ) (Fault : ℕ → ℕ → Type 0) where

@@ -16,7 +16,7 @@ use Rattle.model.specs.declared.Message.{Message}
 use Rattle.model.specs.declared.Event.{Event}
 use Rattle.model.specs.declared.Event.the-variants.{Start, Internal, Send, Receive}
 use Rattle.model.specs.Run.{Run, count, channel, state, into, IsState, Sides, sending, receiving, sameMessage, paired, Paired}
-use Rattle.run.specs.Tables.{slot}
+use Rattle.run.specs.Tables.{partnerAt}
 use Rattle.judging.specs.Pairing.{which, carries, Found, entry, Rising, Higher, Repeats, Received, Settled}
 use Rattle.judging.specs.Pairing.Found.{nowhere, here}
 use Rattle.judging.specs.Pairing.Faulty.{again, alone}
@@ -249,7 +249,7 @@ module _ (r : Run) (sides : Sides r) (p k : ℕ) (m : Message) (g : into r p k �
   }
 
   pub received-one : (ns : List ℕ) (x : ℕ) → x ≢ 0 → Found r (channel r (m .channel) .from) 1 (count r (channel r (m .channel) .from)) true m x
-      → Received r p k ns (set (set ns (slot (channel r (m .channel) .from) x) k) (slot p k) x) false
+      → Received r p k ns (set (set ns (partnerAt (channel r (m .channel) .from) x) k) (partnerAt p k) x) false
   received-one ns x z (nowhere e w) = absurd (z e)
   received-one ns x z (here a c t) = record {
     alone = λ y. absurd (let z : _≡_ {A = ℕ} 0 1 = cc in omega arith);

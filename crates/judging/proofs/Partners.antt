@@ -7,19 +7,18 @@ use Prim.Native.Nat.{ℕ, zero, suc, _+_, _-_, _≤_, _<_}
 use native.Mathlib.Nat.{eq-or-lt-of-le}
 use native.Mathlib.Decide.{ℕ-discrete}
 use native.Mathlib.Omega.{arith}
-use lib.ListN.{length, getD, set, replicate, length-set, length-replicate, getD-replicate, List·getD-eq-default}
+use lib.ListN.{length, getD, set, length-set}
 use lib.Seq.{getD-set-same, getD-set-other}
 use Rattle.model.specs.declared.Channel.{Channel}
 use Rattle.model.specs.declared.Message.{Message}
 use Rattle.model.specs.declared.Event.the-variants.{Send, Receive}
 use Rattle.model.specs.Run.{Run, state, into, count, channel, IsState, Paired}
-use Rattle.model.proofs.Lists.{le-or-lt}
 use Rattle.model.proofs.Pairing.{view, sent-there, received-there}
 use Rattle.run.specs.States.{channelAt}
 use Rattle.run.specs.Said.{runIn}
-use Rattle.run.specs.Tables.{slot, Listed}
+use Rattle.run.specs.Tables.{slot, partnerAt, Listed, Fresh}
 use Rattle.record.specs.Record.{headOf}
-use Rattle.run.proofs.Listed.{ok, channel-is, process-of, placed-eight, placed-few, listed-places, listed-count, listed-eight}
+use Rattle.run.proofs.Listed.{ok, channel-is, listed-eight, listed-few, listed-slot, listed-count}
 use Rattle.judging.specs.Pairing.{which, Rising, Clear, Faulty, Backed, Met, Entered, Settled, Row, Rows}
 
 -- few enough states that each has its own entry
@@ -33,42 +32,37 @@ pub record Partway (r : Run) (p k : ℕ) (ns ns′ : List ℕ) : Type 0 where
   pub met : (l : ℕ) → IsState r p l → l < k → Met r ns′ p l
   pub kept : (j l : ℕ) → IsState r j l → j ≢ p → Met r ns j l → Met r ns′ j l
 
--- where the tables have a process
-pub record RowOf (s cs : List ℕ) (p : ℕ) : Type 0 where
+-- where the index has a process
+pub record RowOf (s ix : List ℕ) (p : ℕ) : Type 0 where
   pub eight : p < 8
-  pub room : p < length cs
-  pub counted : getD cs p 0 ≡ count (runIn s) p
+  pub counted : getD ix p 0 ≡ count (runIn s) p
   pub few : count (runIn s) p ≤ 512
 
-pub row-of : {s cs ps : List ℕ} {n p : ℕ} → Listed s cs ps → n ≡ headOf s .processes → p < n → RowOf s cs p
-row-of {s} {cs} {ps} {n} {p} w e l =
+pub row-of : {s ix : List ℕ} {n p : ℕ} → Listed s ix → n ≡ headOf s .processes → p < n → RowOf s ix p
+row-of {s} {ix} {n} {p} w e l =
     let h : p < headOf s .processes = omega arith in
-    let eight = placed-eight s ps (listed-places w) p h in
-    record { eight = eight; room = omega (arith, listed-eight w); counted = listed-count s cs ps w p h; few = placed-few s ps (listed-places w) p h }
+    record { eight = listed-eight s ix w p h; counted = listed-count s ix w p h; few = listed-few s ix w p h }
 
 -- the sender of a channel, as the channel's record says it
-pub record SenderIs (s cs : List ℕ) (c f : ℕ) : Type 0 where
+pub record SenderIs (s ix : List ℕ) (c f : ℕ) : Type 0 where
   pub same : f ≡ channel (runIn s) c .from
   pub there : f < headOf s .processes
-  pub row : RowOf s cs f
-  pub all : getD cs f 0 ≡ count (runIn s) (channel (runIn s) c .from)
+  pub row : RowOf s ix f
+  pub all : getD ix f 0 ≡ count (runIn s) (channel (runIn s) c .from)
 
-pub sender-of : {s cs ps : List ℕ} {c : ℕ} {e : Channel} → Listed s cs ps → c < headOf s .channels → e ≡ channelAt s c → SenderIs s cs c (e .from)
+pub sender-of : {s ix : List ℕ} {c : ℕ} {e : Channel} → Listed s ix → c < headOf s .channels → e ≡ channelAt s c → SenderIs s ix c (e .from)
 sender-of {s} {c = c} {e = e} w h z =
     let there : e .from < headOf s .processes = rw (ap (λ x. x .from) z) (ok s (w .read) .channels c h .from) in
     let same = ap (λ x. x .from) (z ∙ sym (channel-is s (w .read) c h)) in
     let row = row-of w refl there in
     record { same = same; there = there; row = row; all = row .counted ∙ ap (count (runIn s)) same }
 
-pub small-run : {s cs ps : List ℕ} → Listed s cs ps → Small (runIn s)
-small-run {s} {cs} {ps} w i k t =
-    let v = listed-places w in
-    let h = process-of s (w .read) t in
-    (placed-eight s ps v i h, omega (arith, t .there, placed-few s ps v i h))
+pub small-run : {s ix : List ℕ} → Listed s ix → Small (runIn s)
+small-run {s} {ix} w i k t = let h = listed-slot s ix w t in (h .process, h .few)
 
 module _ (r : Run) (small : Small r) where
-  slot-inside : {i k : ℕ} (ns : List ℕ) → length ns ≡ 4096 → IsState r i k → slot i k < length ns
-  slot-inside {i} {k} ns long w = omega (arith, small i k w, w .counted, long)
+  entry-inside : {i k : ℕ} (ns : List ℕ) → length ns ≡ 40968 → IsState r i k → partnerAt i k < length ns
+  entry-inside {i} {k} ns long w = omega (arith, small i k w, w .counted, long)
 
   pub slot-one : {i k j l : ℕ} → IsState r i k → IsState r j l → slot i k ≡ slot j l → (i ≡ j) × (k ≡ l)
   slot-one {i} {k} {j} {l} w v e =
@@ -79,7 +73,10 @@ module _ (r : Run) (small : Small r) where
       let p : i ≡ j = omega arith in
       (p, omega arith)
 
-  module _ (p k : ℕ) (ns ns′ : List ℕ) (long : length ns ≡ 4096) (e : Entered r p k ns ns′) where
+  entry-one : {i k j l : ℕ} → IsState r i k → IsState r j l → partnerAt i k ≡ partnerAt j l → (i ≡ j) × (k ≡ l)
+  entry-one w v e = slot-one w v (omega arith)
+
+  module _ (p k : ℕ) (ns ns′ : List ℕ) (long : length ns ≡ 40968) (e : Entered r p k ns ns′) where
     send : IsState r (e .process) (e .state)
     send = sent-there (view (e .pair) .send)
 
@@ -87,41 +84,41 @@ module _ (r : Run) (small : Small r) where
     receive = received-there (view (e .pair) .receive)
 
     abbrev mid : List ℕ
-    mid = set ns (slot (e .process) (e .state)) k
+    mid = set ns (partnerAt (e .process) (e .state)) k
 
-    long-mid : length mid ≡ 4096
-    long-mid = length-set ns (slot (e .process) (e .state)) k ∙ long
+    long-mid : length mid ≡ 40968
+    long-mid = length-set ns (partnerAt (e .process) (e .state)) k ∙ long
 
-    pub entered-long : length ns′ ≡ 4096
-    entered-long = ap length (e .after) ∙ length-set mid (slot p k) (e .state) ∙ long-mid
+    pub entered-long : length ns′ ≡ 40968
+    entered-long = ap length (e .after) ∙ length-set mid (partnerAt p k) (e .state) ∙ long-mid
 
     -- what the entries say behind it
-    at-receive : getD ns′ (slot p k) 0 ≡ e .state
-    at-receive = ap (λ l. getD l (slot p k) 0) (e .after) ∙ getD-set-same mid (slot p k) (e .state) 0 (slot-inside mid long-mid receive)
+    at-receive : getD ns′ (partnerAt p k) 0 ≡ e .state
+    at-receive = ap (λ l. getD l (partnerAt p k) 0) (e .after) ∙ getD-set-same mid (partnerAt p k) (e .state) 0 (entry-inside mid long-mid receive)
 
-    at-send : slot (e .process) (e .state) ≢ slot p k → getD ns′ (slot (e .process) (e .state)) 0 ≡ k
+    at-send : partnerAt (e .process) (e .state) ≢ partnerAt p k → getD ns′ (partnerAt (e .process) (e .state)) 0 ≡ k
     at-send d =
-        ap (λ l. getD l (slot (e .process) (e .state)) 0) (e .after)
-        ∙ getD-set-other mid (slot p k) (slot (e .process) (e .state)) (e .state) 0 d
-        ∙ getD-set-same ns (slot (e .process) (e .state)) k 0 (slot-inside ns long send)
+        ap (λ l. getD l (partnerAt (e .process) (e .state)) 0) (e .after)
+        ∙ getD-set-other mid (partnerAt p k) (partnerAt (e .process) (e .state)) (e .state) 0 d
+        ∙ getD-set-same ns (partnerAt (e .process) (e .state)) k 0 (entry-inside ns long send)
 
-    elsewhere : (x : ℕ) → x ≢ slot p k → x ≢ slot (e .process) (e .state) → getD ns′ x 0 ≡ getD ns x 0
+    elsewhere : (x : ℕ) → x ≢ partnerAt p k → x ≢ partnerAt (e .process) (e .state) → getD ns′ x 0 ≡ getD ns x 0
     elsewhere x d f =
-        ap (λ l. getD l x 0) (e .after) ∙ getD-set-other mid (slot p k) x (e .state) 0 d ∙ getD-set-other ns (slot (e .process) (e .state)) x k 0 f
+        ap (λ l. getD l x 0) (e .after) ∙ getD-set-other mid (partnerAt p k) x (e .state) 0 d ∙ getD-set-other ns (partnerAt (e .process) (e .state)) x k 0 f
 
     -- a send is no receive
-    apart : slot (e .process) (e .state) ≢ slot p k
+    apart : partnerAt (e .process) (e .state) ≢ partnerAt p k
     apart z =
-        let (a, b) = slot-one send receive z in
+        let (a, b) = entry-one send receive z in
         let v = view (e .pair) in
         let w : Send (v .sent) ≡ Receive (v .received) = sym (v .send) ∙ ap (λ i. into r i (e .state)) a ∙ ap (into r p) b ∙ v .receive in
         let z : _≡_ {A = ℕ} 0 1 = cc (w) in omega arith
 
     -- an entry that isn't 0 stays so
     stays : (x : ℕ) → getD ns x 0 ≢ 0 → getD ns′ x 0 ≢ 0
-    stays x n z = elim (ℕ-discrete x (slot p k)) [
+    stays x n z = elim (ℕ-discrete x (partnerAt p k)) [
       | yes a ↦ absurd (omega (arith, send .counted, at-receive, ap (λ y. getD ns′ y 0) a))
-      | no d ↦ elim (ℕ-discrete x (slot (e .process) (e .state))) [
+      | no d ↦ elim (ℕ-discrete x (partnerAt (e .process) (e .state))) [
         | yes a ↦ absurd (omega (arith, receive .counted, at-send apart, ap (λ y. getD ns′ y 0) a))
         | no f ↦ n (sym (elsewhere x d f) ∙ z)
       ]
@@ -129,19 +126,19 @@ module _ (r : Run) (small : Small r) where
 
     pub entered-backed : Backed r ns → Backed r ns′
     unfolding Backed
-    entered-backed w i l s = elim (ℕ-discrete (slot i l) (slot p k)) [
-      | yes a ↦ let (x, y) = slot-one s receive a in inr (inr (
+    entered-backed w i l s = elim (ℕ-discrete (partnerAt i l) (partnerAt p k)) [
+      | yes a ↦ let (x, y) = entry-one s receive a in inr (inr (
         e .process,
         subst (λ v. Paired r (e .process) v i l) (sym (ap (λ z. getD ns′ z 0) a ∙ at-receive))
             (subst (λ i. Paired r (e .process) (e .state) i l) (sym x) (subst (λ l. Paired r (e .process) (e .state) p l) (sym y) (e .pair))),
       ))
-      | no d ↦ elim (ℕ-discrete (slot i l) (slot (e .process) (e .state))) [
-        | yes a ↦ let (x, y) = slot-one s send a in inr (inl (
+      | no d ↦ elim (ℕ-discrete (partnerAt i l) (partnerAt (e .process) (e .state))) [
+        | yes a ↦ let (x, y) = entry-one s send a in inr (inl (
           p,
           subst (Paired r i l p) (sym (ap (λ z. getD ns′ z 0) a ∙ at-send apart))
               (subst (λ i. Paired r i l p k) (sym x) (subst (λ l. Paired r (e .process) l p k) (sym y) (e .pair))),
         ))
-        | no f ↦ subst (λ v. (v ≡ 0) ⊎ ((j : ℕ) × Paired r i l j v) ⊎ ((j : ℕ) × Paired r j v i l)) (sym (elsewhere (slot i l) d f)) (w i l s)
+        | no f ↦ subst (λ v. (v ≡ 0) ⊎ ((j : ℕ) × Paired r i l j v) ⊎ ((j : ℕ) × Paired r j v i l)) (sym (elsewhere (partnerAt i l) d f)) (w i l s)
       ]
     ]
 
@@ -149,11 +146,11 @@ module _ (r : Run) (small : Small r) where
     unfolding Met
     entered-met m g = (e .process, e .state, e .pair, at-receive, λ z. absurd (omega (arith, receive .counted, at-send apart)))
 
-    pub entered-keeps : (j l : ℕ) → IsState r j l → slot j l ≢ slot p k → Met r ns j l → Met r ns′ j l
+    pub entered-keeps : (j l : ℕ) → IsState r j l → partnerAt j l ≢ partnerAt p k → Met r ns j l → Met r ns′ j l
     unfolding Met
     entered-keeps j l s d w m g =
         let (i, n, q, a, b) = w m g in
-        (i, n, q, elsewhere (slot j l) d (λ z. no-send (slot-one s send z)) ∙ a, stays (slot i n) b)
+        (i, n, q, elsewhere (partnerAt j l) d (λ z. no-send (entry-one s send z)) ∙ a, stays (partnerAt i n) b)
       where
         no-send : (j ≡ e .process) × (l ≡ e .state) → ⊥
         no-send x =
@@ -169,7 +166,7 @@ module _ (r : Run) (small : Small r) where
     kept = λ j l s d w. w;
   }
 
-  pub partway-next : (p k : ℕ) (ns mid ns′ marks marks′ : List ℕ) → length mid ≡ 4096 → IsState r p k → Partway r p k ns mid → Settled r p k mid ns′ marks marks′ false
+  pub partway-next : (p k : ℕ) (ns mid ns′ marks marks′ : List ℕ) → length mid ≡ 40968 → IsState r p k → Partway r p k ns mid → Settled r p k mid ns′ marks marks′ false
       → Partway r p (suc k) ns ns′
   unfolding Met
   partway-next p k ns mid ns′ marks marks′ long here w v = ⊎-elim quiet enter (v .entered refl)
@@ -193,8 +190,8 @@ module _ (r : Run) (small : Small r) where
         clear = λ l s h. by (λ l. Clear r p l) l h (v .clear refl) (w .clear l s);
         backed = λ b. entered-backed p k mid ns′ long e (w .backed b);
         met = λ l s h. by (λ l. Met r ns′ p l) l h (entered-met p k mid ns′ long e)
-            (λ g. entered-keeps p k mid ns′ long e p l s (λ z. absurd (omega (arith, slot-one s here z .1))) (w .met l s g));
-        kept = λ j l s d a. entered-keeps p k mid ns′ long e j l s (λ z. d (slot-one s here z .0)) (w .kept j l s d a);
+            (λ g. entered-keeps p k mid ns′ long e p l s (λ z. absurd (omega (arith, entry-one s here z .1))) (w .met l s g));
+        kept = λ j l s d a. entered-keeps p k mid ns′ long e j l s (λ z. d (entry-one s here z .0)) (w .kept j l s d a);
       }
 
   pub row-fault : (p k : ℕ) (ns mid ns′ marks marks′ : List ℕ) → IsState r p k → Partway r p k ns mid → Settled r p k mid ns′ marks marks′ true → Row r p ns ns′ k
@@ -225,17 +222,14 @@ module _ (r : Run) (small : Small r) where
 
 -- ---- process by process
 
-pub rows-start : (r : Run) (bad ns : List ℕ) → ns ≡ replicate 4096 0 → Rows r 0 bad ns
+pub rows-start : (r : Run) (bad ns : List ℕ) → Fresh 4104 ns → Rows r 0 bad ns
 unfolding Backed
 rows-start r bad ns e = record {
   faulty = λ p h. absurd (omega arith);
   clear = λ p l h. absurd (omega arith);
-  backed = λ w i k t. inl (ap (λ l. getD l (slot i k) 0) e ∙ zero-at (slot i k));
+  backed = λ w i k t. inl (e (partnerAt i k) (omega arith));
   met = λ w p l h. absurd (omega arith);
 }
-  where
-    zero-at : (x : ℕ) → _≡_ {A = ℕ} (getD (replicate 4096 0) x 0) 0
-    zero-at x = ⊎-elim (λ h. getD-replicate 4096 x 0 0 h) (λ h. List·getD-eq-default (replicate 4096 0) 0 {n = x} (omega (arith, length-replicate {A = ℕ} 4096 0))) (le-or-lt (suc x) 4096)
 
 pub rows-next : (r : Run) (n k : ℕ) (bad ns ns′ : List ℕ) → n < length bad → Rows r n bad ns → Row r n ns ns′ k → Rows r (n + 1) (set bad n k) ns′
 rows-next r n k bad ns ns′ inside w v = record {

@@ -30,7 +30,7 @@ use Rattle.run.specs.Read.{Verdict, readOf}
 use Rattle.run.specs.Inner.{reading, Passed}
 use Rattle.run.specs.Read.Verdict.{refused, accepted}
 use Rattle.run.specs.Said.{statesOf, placesIn, runIn, placeOf}
-use Rattle.run.specs.Tables.{slot, clockIn, Partnered, Listed}
+use Rattle.run.specs.Tables.{partnerAt, clockIn, Partnered, Listed, Fresh}
 use Rattle.judging.specs.Judged.{Unpaired, FirstAt, Nowhere, Circular, WrongClock}
 use Rattle.judging.specs.Inner.{Earliest, PairingJudged, CircleJudged, ClockJudged}
 use Rattle.judging.specs.Inner.ClockJudged.{wrongClock, allRight}
@@ -130,36 +130,36 @@ module _ (s : List ℕ) (read : readOf s ≡ accepted (statesOf s)) where
   unfolding Backed Met
   met-partnered known ns b met = record { sent = sent; received = received; backed = backed }
     where
-      received : (i k j l : ℕ) → Paired r i k j l → getD ns (slot j l) 0 ≡ k
+      received : (i k j l : ℕ) → Paired r i k j l → getD ns (partnerAt j l) 0 ≡ k
       received i k j l q =
           let v = view q in
           let (i′, k′, q′, a, z) = met j l (received-there (v .receive)) (v .received) (v .receive) in
           a ∙ sym (one-send r known q q′ .1)
 
       -- an entry of a send that isn't 0 is where it is received
-      sent : (i k j l : ℕ) → Paired r i k j l → getD ns (slot i k) 0 ≡ l
+      sent : (i k j l : ℕ) → Paired r i k j l → getD ns (partnerAt i k) 0 ≡ l
       sent i k j l q =
           let v = view q in
           let (i′, k′, q′, a, z) = met j l (received-there (v .receive)) (v .received) (v .receive) in
           let (x, y) = one-send r known q q′ in
           let there = sent-there (v .send) in
-          let filled : getD ns (slot i k) 0 ≢ 0 = λ e. z (ap (λ n. getD ns n 0) (ap (λ i. slot i k′) (sym x) ∙ ap (slot i) (sym y)) ∙ e) in
+          let filled : getD ns (partnerAt i k) 0 ≢ 0 = λ e. z (ap (λ n. getD ns n 0) (ap (λ i. partnerAt i k′) (sym x) ∙ ap (partnerAt i) (sym y)) ∙ e) in
           ⊎-elim (λ e. absurd (filled e)) (λ w. ⊎-elim
-          (λ (o : (j′ : ℕ) × Paired r i k j′ (getD ns (slot i k) 0)). one-receive r known (o .1) q .1)
-          (λ (o : (j′ : ℕ) × Paired r j′ (getD ns (slot i k) 0) i k). absurd (both (v .send) (view (o .1) .receive)))
+          (λ (o : (j′ : ℕ) × Paired r i k j′ (getD ns (partnerAt i k) 0)). one-receive r known (o .1) q .1)
+          (λ (o : (j′ : ℕ) × Paired r j′ (getD ns (partnerAt i k) 0) i k). absurd (both (v .send) (view (o .1) .receive)))
           w) (b i k there)
         where
           both : {m n : Message} → into r i k ≡ Send m → into r i k ≡ Receive n → ⊥
           both e g = let z : _≡_ {A = ℕ} 0 1 = cc (e, g) in omega arith
 
-      backed : (i k : ℕ) (m : Message) → into r i k ≡ Send m → (getD ns (slot i k) 0 ≡ 0) ⊎ Paired r i k (channel r (m .channel) .to) (getD ns (slot i k) 0)
+      backed : (i k : ℕ) (m : Message) → into r i k ≡ Send m → (getD ns (partnerAt i k) 0 ≡ 0) ⊎ Paired r i k (channel r (m .channel) .to) (getD ns (partnerAt i k) 0)
       backed i k m e = ⊎-elim (λ z. inl z) (λ w. ⊎-elim
-          (λ (o : (j : ℕ) × Paired r i k j (getD ns (slot i k) 0)).
+          (λ (o : (j : ℕ) × Paired r i k j (getD ns (partnerAt i k) 0)).
           let v = view (o .1) in
           let same : v .sent ≡ m = cc (v .send, e) in
           let end : o .0 ≡ channel r (m .channel) .to = sym (to-side r (sides s read) v) ∙ ap (λ c. channel r c .to) (sym (v .on) ∙ ap (λ n. n .channel) same) in
-          inr (subst (λ j. Paired r i k j (getD ns (slot i k) 0)) end (o .1)))
-          (λ (o : (j : ℕ) × Paired r j (getD ns (slot i k) 0) i k). absurd (let g = view (o .1) .receive in let z : _≡_ {A = ℕ} 0 1 = cc (e, g) in omega arith))
+          inr (subst (λ j. Paired r i k j (getD ns (partnerAt i k) 0)) end (o .1)))
+          (λ (o : (j : ℕ) × Paired r j (getD ns (partnerAt i k) 0) i k). absurd (let g = view (o .1) .receive in let z : _≡_ {A = ℕ} 0 1 = cc (e, g) in omega arith))
           w) (b i k (sent-there e))
 
   -- ---- the rows of all processes
@@ -195,11 +195,11 @@ next-cases d n = go (ltb d n) refl
     go true e = inl (ltb-true d n e, refl)
     go false e = inr (ltb-false d n e, refl)
 
-module _ (s cs ps done ks bad : List ℕ) (w : Listed s cs ps) (o : Ordered s done ks) (u : Undone (headOf s .processes) cs done bad) where
+module _ (s ix done bad : List ℕ) (w : Listed s ix) (o : Ordered s done ix) (u : Undone (headOf s .processes) ix done bad) where
   bad-is : (p : ℕ) → p < headOf s .processes → ((getD done p 0 < count (runIn s) p) × (getD bad p 0 ≡ getD done p 0 + 1)) ⊎ ((count (runIn s) p ≤ getD done p 0) × (getD bad p 0 ≡ 0))
   bad-is p h =
-      let e = listed-count s cs ps w p h in
-      ⊎-elim (λ x. inl (omega (arith, x .0, e), u .next p h ∙ x .1)) (λ x. inr (omega (arith, x .0, e), u .next p h ∙ x .1)) (next-cases (getD done p 0) (getD cs p 0))
+      let e = listed-count s ix w p h in
+      ⊎-elim (λ x. inl (omega (arith, x .0, e), u .next p h ∙ x .1)) (λ x. inr (omega (arith, x .0, e), u .next p h ∙ x .1)) (next-cases (getD done p 0) (getD ix p 0))
 
   pub circle-firsts : Firsts s (Circular s) bad
   circle-firsts = record {
@@ -214,7 +214,7 @@ module _ (s cs ps done ks bad : List ℕ) (w : Listed s cs ps) (o : Ordered s do
       there : (p : ℕ) → p < headOf s .processes → getD bad p 0 ≢ 0 → IsState (runIn s) p (getD bad p 0)
       there p h n = ⊎-elim (λ x. record { counted = omega (arith, x .1); there = omega (arith, x .0, x .1) }) (λ x. absurd (n (x .1))) (bad-is p h)
 
-  pub circle-judged : (f : First) → Earliest s (headOf s .processes) bad f → CircleJudged s ks f
+  pub circle-judged : (f : First) → Earliest s (headOf s .processes) bad f → CircleJudged s ix f
   unfolding Clocks
   circle-judged Nothing e = noCircle (first-none s (w .read) (Circular s) bad circle-firsts e)
       (λ j l i t h. o .clocks j l i t (⊎-elim
@@ -257,19 +257,19 @@ clock-judged s read bad w (At x) e = wrongClock x (first-at s read (WrongClock s
 
 -- ---- what the pass gives
 
-pub refused-by-pass : {s cs ps : List ℕ} {r : Reading} (x : Refusal) → Passed s (readOf s) r cs ps → r ≡ Refused x → readOf s ≡ refused x
+pub refused-by-pass : {s ix : List ℕ} {r : Reading} (x : Refusal) → Passed s (readOf s) r ix → r ≡ Refused x → readOf s ≡ refused x
 refused-by-pass {s} x w same = go (readOf s) (sym same ∙ w .answer)
   where
     go : (v : Verdict) → Refused x ≡ reading s v → v ≡ refused x
     go (refused y) e = cc
     go (accepted qs) e = absurd (let z : _≡_ {A = ℕ} 0 1 = cc in omega arith)
 
-pub listed-by-pass : {s cs ps : List ℕ} {r : Reading} (h : Head) → Passed s (readOf s) r cs ps → r ≡ Accepted h → length ps ≡ 4096 → Listed s cs ps × (h ≡ headOf s)
+pub listed-by-pass : {s ix : List ℕ} {r : Reading} (h : Head) → Passed s (readOf s) r ix → r ≡ Accepted h → length ix ≡ 40968 → Listed s ix × Fresh 4104 ix × (h ≡ headOf s)
 unfolding statesOf
-listed-by-pass {s} {cs} {ps} h w same long = go (readOf s) refl (sym same ∙ w .answer)
+listed-by-pass {s} {ix} h w same long = go (readOf s) refl (sym same ∙ w .answer)
   where
-    go : (v : Verdict) → readOf s ≡ v → Accepted h ≡ reading s v → Listed s cs ps × (h ≡ headOf s)
+    go : (v : Verdict) → readOf s ≡ v → Accepted h ≡ reading s v → Listed s ix × Fresh 4104 ix × (h ≡ headOf s)
     go (refused y) d e = absurd (let z : _≡_ {A = ℕ} 0 1 = cc in omega arith)
     go (accepted qs) d e =
         let states : readOf s ≡ accepted (statesOf s) = d ∙ ap accepted (sym (ap placesIn d)) in
-        (record { read = states; index = w .index (statesOf s) states; long = long }, cc)
+        (record { read = states; index = w .index (statesOf s) states; long = long }, w .fresh (statesOf s) states, cc)

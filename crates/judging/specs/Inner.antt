@@ -20,8 +20,8 @@ use Rattle.judging.specs.Judged.{Unpaired, Circular, WrongClock, FirstAt
 unfoldable pub nextOf : ℕ → ℕ → ℕ
 nextOf done count = cond (ltb done count) (done + 1) 0
 
-pub record Undone (n : ℕ) (counts done bad : List ℕ) : Type 0 where
-  pub next : (p : ℕ) → p < n → getD bad p 0 ≡ nextOf (getD done p 0) (getD counts p 0)
+pub record Undone (n : ℕ) (ix done bad : List ℕ) : Type 0 where
+  pub next : (p : ℕ) → p < n → getD bad p 0 ≡ nextOf (getD done p 0) (getD ix p 0)
 
 -- the lowest of the places of a state of each process, of those that have one (0: none)
 pub data Earliest (s : List ℕ) (n : ℕ) (bad : List ℕ) : First → Type 0 where
@@ -48,7 +48,7 @@ pub data ClockJudged (s : List ℕ) : First → Type 0 where
   wrongClock : (x : ℕ) → FirstAt s (WrongClock s) x → ClockJudged s (At x)
   allRight : Nowhere s (WrongClock s) → ClockJudged s Nothing
 
--- of an accepted run the tables are filled
-abbrev pub Ready : (s cs ps ns ks : List ℕ) → Reading → Type 0
-Ready s cs ps ns ks (Accepted h) = Tables s cs ps ns ks
-Ready s cs ps ns ks (Refused x) = Unit {0}
+-- of an accepted run the index is filled
+abbrev pub Ready : (s ix : List ℕ) → Reading → Type 0
+Ready s ix (Accepted h) = Tables s ix
+Ready s ix (Refused x) = Unit {0}

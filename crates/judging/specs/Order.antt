@@ -11,7 +11,7 @@ use Rattle.model.specs.declared.Event.the-variants.{Receive}
 use Rattle.model.specs.Run.{Run, count, processes, into, IsState, Paired}
 use Rattle.model.specs.Cut.{AfterCircle, ClockIs}
 use Rattle.run.specs.Said.{runIn}
-use Rattle.run.specs.Tables.{slot, clockIn}
+use Rattle.run.specs.Tables.{clockRow, clockIn}
 use Rattle.judging.specs.Judged.{WrongClock}
 
 -- states 1 to done p of each process p are clear of circles with their clocks, and all others are on a circle or after one
@@ -39,7 +39,7 @@ numberOf clocks p k i l x = cond (eqb x p) k (max (numberAt clocks p (k - 1) x) 
 -- places 0 to n - 1 of the clock of state k of process p are written, and no other state's
 pub record Written (n p k i l : ℕ) (clocks clocks′ : List ℕ) : Type 0 where
   pub row : (x : ℕ) → x < n → clockIn clocks′ p k x ≡ numberOf clocks p k i l x
-  pub rest : (x : ℕ) → (x < 8 * slot p k) ⊎ (8 * slot p k + 8 ≤ x) → getD clocks′ x 0 ≡ getD clocks x 0
+  pub rest : (x : ℕ) → (x < clockRow p k) ⊎ (clockRow p k + 8 ≤ x) → getD clocks′ x 0 ≡ getD clocks x 0
 
 -- what is done is clear of circles, and its clocks are right
 pub record Sound (r : Run) (done ks : List ℕ) : Type 0 where

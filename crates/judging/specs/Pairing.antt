@@ -11,7 +11,7 @@ use Rattle.model.specs.declared.Message.{Message}
 use Rattle.model.specs.declared.Event.{Event}
 use Rattle.model.specs.declared.Event.the-variants.{Receive}
 use Rattle.model.specs.Run.{Run, into, IsState, sending, receiving, sameMessage, Paired}
-use Rattle.run.specs.Tables.{slot}
+use Rattle.run.specs.Tables.{partnerAt}
 
 -- what an event sends, or what it receives
 unfoldable pub which : Bool → Event → Option Message
@@ -49,11 +49,11 @@ pub data Faulty (r : Run) (p k : ℕ) : Type 0 where
 -- every entry of the partners is 0 or says a pair
 unfoldable pub Backed : Run → List ℕ → Type 0
 Backed r ns = (i k : ℕ) → IsState r i k
-    → (getD ns (slot i k) 0 ≡ 0) ⊎ ((j : ℕ) × Paired r i k j (getD ns (slot i k) 0)) ⊎ ((j : ℕ) × Paired r j (getD ns (slot i k) 0) i k)
+    → (getD ns (partnerAt i k) 0 ≡ 0) ⊎ ((j : ℕ) × Paired r i k j (getD ns (partnerAt i k) 0)) ⊎ ((j : ℕ) × Paired r j (getD ns (partnerAt i k) 0) i k)
 
 -- a receive that is entered at both its ends
 unfoldable pub Met : Run → List ℕ → ℕ → ℕ → Type 0
-Met r ns j l = (m : Message) → into r j l ≡ Receive m → (i : ℕ) × (k : ℕ) × Paired r i k j l × (getD ns (slot j l) 0 ≡ k) × (getD ns (slot i k) 0 ≢ 0)
+Met r ns j l = (m : Message) → into r j l ≡ Receive m → (i : ℕ) × (k : ℕ) × Paired r i k j l × (getD ns (partnerAt j l) 0 ≡ k) × (getD ns (partnerAt i k) 0 ≢ 0)
 
 abbrev pub Higher : List ℕ → List ℕ → Type 0
 Higher marks marks′ = (i : ℕ) → getD marks i 0 ≤ getD marks′ i 0
@@ -70,7 +70,7 @@ pub record Entered (r : Run) (p k : ℕ) (ns ns′ : List ℕ) : Type 0 where
   pub process : ℕ
   pub state : ℕ
   pub pair : Paired r process state p k
-  pub after : ns′ ≡ set (set ns (slot process state) k) (slot p k) state
+  pub after : ns′ ≡ set (set ns (partnerAt process state) k) (partnerAt p k) state
 
 pub record Received (r : Run) (p k : ℕ) (ns ns′ : List ℕ) (answer : Bool) : Type 0 where
   pub alone : answer ≡ true → (i l : ℕ) → ¬ Paired r i l p k

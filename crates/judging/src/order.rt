@@ -2,28 +2,31 @@
 use crate::Ahead;
 use model::Event;
 use record::bytes::u16_at;
-use run::slots::event_at;
-use run::slots::place_of;
-use run::slots::slot_of;
+use run::index::clock_at;
+use run::index::count_of;
+use run::index::enter_clock;
+use run::index::event_at;
+use run::index::partner_of;
+use run::index::place_of;
 use run::states::channel_at;
 ghost use mathlib.Core.Path.{_≡_};
 ghost use mathlib.Core.Logic.{_≢_};
 ghost use Prim.Native.Nat.{_≤_, _<_, max};
 ghost use lib.ListN.{length, replicate};
-ghost use Rattle.model.specs.Run.{IsState, Known};
+ghost use Rattle.model.specs.Run.{IsState};
 ghost use Rattle.model.specs.Cut.{Clocks};
 ghost use Rattle.record.specs.Record.{headOf};
 ghost use Rattle.run.specs.Said.{runIn};
-ghost use Rattle.run.specs.Tables.{clockIn, Partnered, Placed, Listed};
+ghost use Rattle.run.specs.Tables.{clockIn, Listed, Matched};
 ghost use Rattle.judging.specs.Order.{AheadIs, numberAt, numberOf, Written, Sound, Advanced, Swept, Ordered, Compared, FirstOf, FirstsTo};
 ghost use Rattle.judging.specs.Judged.{WrongClock};
 
 // The state ahead of the send that state k of process p receives.
-fn ahead_of(run: &[u8], places: &[u16], partners: &[u16], p: u16, k: u16) -> Ahead
-    requires { ⌜ Placed (now run) (now places) × Known (runIn (now run)) × Partnered (runIn (now run)) (now partners) × (length (now partners) ≡ 4096) × IsState (runIn (now run)) p k ⌝ }
+fn ahead_of(run: &[u8], index: &[u16], p: u16, k: u16) -> Ahead
+    requires { ⌜ Matched (now run) (now index) × IsState (runIn (now run)) p k ⌝ }
     ensures { λ r. ⌜ AheadIs (runIn (now (run .entry))) p k (r .process) (r .state) ⌝ }
 {
-    let event = event_at(run, places, p, k);
+    let event = event_at(run, index, p, k);
     match event {
         Event::Start => Ahead {
             process: 0,
@@ -39,10 +42,9 @@ fn ahead_of(run: &[u8], places: &[u16], partners: &[u16], p: u16, k: u16) -> Ahe
         },
         Event::Receive(m) => {
             let process = channel_at(run, m.channel).from;
-            let slot = slot_of(p, k);
             Ahead {
                 process,
-                state: partners[slot] - 1,
+                state: partner_of(index, p, k) - 1,
             }
         }
     }
@@ -55,91 +57,71 @@ fn larger(a: u16, b: u16) -> u16
 }
 
 // Place i of the clock of state k of process p, 0 where k is 0.
-fn number_at(clocks: &[u16], p: u16, k: u16, i: u16) -> u16
-    requires { ⌜ (length (now clocks) ≡ 32768) × (p < 8) × (k ≤ 512) × (i < 8) ⌝ }
-    ensures { λ r. ⌜ r ≡ numberAt (now (clocks .entry)) p k i ⌝ }
+fn number_at(index: &[u16], p: u16, k: u16, i: u16) -> u16
+    requires { ⌜ (length (now index) ≡ 40968) × (p < 8) × (k ≤ 512) × (i < 8) ⌝ }
+    ensures { λ r. ⌜ r ≡ numberAt (now (index .entry)) p k i ⌝ }
 {
     if k == 0 {
         return 0;
     }
-    let entry = 8 * slot_of(p, k) + i as usize;
-    clocks[entry]
+    clock_at(index, p, k, i)
 }
 
 // Place i of the clock of state k of process p, by the rule.
-fn number_of(clocks: &[u16], p: u16, k: u16, ahead: Ahead, i: u16) -> u16
-    requires { ⌜ (length (now clocks) ≡ 32768) × (p < 8) × (1 ≤ k) × (k ≤ 512) × (ahead .process < 8) × (ahead .state ≤ 512) × (i < 8) ⌝ }
-    ensures { λ r. ⌜ r ≡ numberOf (now (clocks .entry)) p k (ahead .process) (ahead .state) i ⌝ }
+fn number_of(index: &[u16], p: u16, k: u16, ahead: Ahead, i: u16) -> u16
+    requires { ⌜ (length (now index) ≡ 40968) × (p < 8) × (1 ≤ k) × (k ≤ 512) × (ahead .process < 8) × (ahead .state ≤ 512) × (i < 8) ⌝ }
+    ensures { λ r. ⌜ r ≡ numberOf (now (index .entry)) p k (ahead .process) (ahead .state) i ⌝ }
 {
     if i == p {
         return k;
     }
-    let own = number_at(clocks, p, k - 1, i);
-    let other = number_at(clocks, ahead.process, ahead.state, i);
+    let own = number_at(index, p, k - 1, i);
+    let other = number_at(index, ahead.process, ahead.state, i);
     larger(own, other)
 }
 
 // Writes the clock of state k of process p, n numbers.
-fn clock_row(clocks: &mut [u16], n: u16, p: u16, k: u16, ahead: Ahead)
-    requires { ⌜ (length (now clocks) ≡ 32768) × (n ≤ 8) × (p < 8) × (1 ≤ k) × (k ≤ 512) × (ahead .process < 8) × (ahead .state ≤ 512) × (ahead .state ≢ 0 → ahead .process ≢ p) ⌝ }
-    ensures { λ _. ⌜ Written n p k (ahead .process) (ahead .state) (now (clocks .entry)) (now (clocks .exit)) ⌝ }
+fn clock_row(index: &mut [u16], n: u16, p: u16, k: u16, ahead: Ahead)
+    requires { ⌜ (length (now index) ≡ 40968) × (n ≤ 8) × (p < 8) × (1 ≤ k) × (k ≤ 512) × (ahead .process < 8) × (ahead .state ≤ 512) × (ahead .state ≢ 0 → ahead .process ≢ p) ⌝ }
+    ensures { λ _. ⌜ Written n p k (ahead .process) (ahead .state) (now (index .entry)) (now (index .exit)) ⌝ }
 {
-    let row = 8 * slot_of(p, k);
     let mut i: u16 = 0;
     while i < n {
-        let number = number_of(clocks, p, k, ahead, i);
-        let entry = row + i as usize;
-        clocks[entry] = number;
+        let number = number_of(index, p, k, ahead, i);
+        enter_clock(index, p, k, i, number);
         i += 1;
     }
 }
 
 // Does the next state of process p if it can; whether it did.
-fn advance(
-    run: &[u8],
-    counts: &[u16],
-    places: &[u16],
-    partners: &[u16],
-    clocks: &mut [u16],
-    done: &mut [u16],
-    n: u16,
-    p: u16,
-) -> bool
-    requires { ⌜ Listed (now run) (now counts) (now places) × Known (runIn (now run)) × Partnered (runIn (now run)) (now partners) × (length (now partners) ≡ 4096) × (length (now clocks) ≡ 32768) × (length (now done) ≡ 8) × (n ≡ headOf (now run) .processes) × (p < n) × Sound (runIn (now run)) (now done) (now clocks) ⌝ }
-    ensures { λ r. ⌜ Advanced (runIn (now (run .entry))) p (now (done .entry)) (now (done .exit)) (now (clocks .exit)) r ⌝ }
+fn advance(run: &[u8], index: &mut [u16], done: &mut [u16], n: u16, p: u16) -> bool
+    requires { ⌜ Matched (now run) (now index) × (length (now done) ≡ 8) × (n ≡ headOf (now run) .processes) × (p < n) × Sound (runIn (now run)) (now done) (now index) ⌝ }
+    ensures { λ r. ⌜ Advanced (runIn (now (run .entry))) p (now (done .entry)) (now (done .exit)) (now (index .exit)) r × Matched (now (run .entry)) (now (index .exit)) ⌝ }
 {
     let row = p as usize;
     let k = done[row];
-    if counts[row] <= k {
+    if count_of(index, p) <= k {
         return false;
     }
-    let ahead = ahead_of(run, places, partners, p, k + 1);
+    let ahead = ahead_of(run, index, p, k + 1);
     let other = ahead.process as usize;
     if done[other] < ahead.state {
         return false;
     }
-    clock_row(clocks, n, p, k + 1, ahead);
+    clock_row(index, n, p, k + 1, ahead);
     done[row] = k + 1;
     true
 }
 
 // A turn for each process; whether any went on.
-fn sweep(
-    run: &[u8],
-    counts: &[u16],
-    places: &[u16],
-    partners: &[u16],
-    clocks: &mut [u16],
-    done: &mut [u16],
-    n: u16,
-) -> bool
-    requires { ⌜ Listed (now run) (now counts) (now places) × Known (runIn (now run)) × Partnered (runIn (now run)) (now partners) × (length (now partners) ≡ 4096) × (length (now clocks) ≡ 32768) × (length (now done) ≡ 8) × (n ≡ headOf (now run) .processes) × Sound (runIn (now run)) (now done) (now clocks) ⌝ }
-    ensures { λ r. ⌜ Swept (runIn (now (run .entry))) n (now (done .entry)) (now (done .exit)) (now (clocks .exit)) r ⌝ }
+fn sweep(run: &[u8], index: &mut [u16], done: &mut [u16], n: u16) -> bool
+    requires { ⌜ Matched (now run) (now index) × (length (now done) ≡ 8) × (n ≡ headOf (now run) .processes) × Sound (runIn (now run)) (now done) (now index) ⌝ }
+    ensures { λ r. ⌜ Swept (runIn (now (run .entry))) n (now (done .entry)) (now (done .exit)) (now (index .exit)) r × Matched (now (run .entry)) (now (index .exit)) ⌝ }
 {
     let mut moved = false;
     let mut p: u16 = 0;
     while p < n {
-        let more = advance(run, counts, places, partners, clocks, done, n, p);
+        let more = advance(run, index, done, n, p);
         moved = moved | more;
         p += 1;
     }
@@ -147,36 +129,26 @@ fn sweep(
 }
 
 // How many states of each process are clear of circles, into `done`, and their clocks.
-pub fn order_all(
-    run: &[u8],
-    counts: &[u16],
-    places: &[u16],
-    partners: &[u16],
-    clocks: &mut [u16],
-    done: &mut [u16],
-    n: u16,
-)
-    requires { ⌜ Listed (now run) (now counts) (now places) × Known (runIn (now run)) × Partnered (runIn (now run)) (now partners) × (length (now partners) ≡ 4096) × (length (now clocks) ≡ 32768) × (now done ≡ replicate 8 0) × (n ≡ headOf (now run) .processes) ⌝ }
-    ensures { λ _. ⌜ Ordered (now (run .entry)) (now (done .exit)) (now (clocks .exit)) ⌝ }
+pub fn order_all(run: &[u8], index: &mut [u16], done: &mut [u16], n: u16)
+    requires { ⌜ Matched (now run) (now index) × (now done ≡ replicate 8 0) × (n ≡ headOf (now run) .processes) ⌝ }
+    ensures { λ _. ⌜ Ordered (now (run .entry)) (now (done .exit)) (now (index .exit)) × Matched (now (run .entry)) (now (index .exit)) ⌝ }
 {
     loop {
-        if !sweep(run, counts, places, partners, clocks, done, n) {
+        if !sweep(run, index, done, n) {
             break;
         }
     }
 }
 
 // Whether the record of state k of process p has a clock number other than the table's.
-fn differs(run: &[u8], places: &[u16], clocks: &[u16], n: u16, p: u16, k: u16) -> bool
-    requires { ⌜ Placed (now run) (now places) × Clocks (runIn (now run)) (clockIn (now clocks)) × (length (now clocks) ≡ 32768) × (n ≡ headOf (now run) .processes) × IsState (runIn (now run)) p k ⌝ }
+fn differs(run: &[u8], index: &[u16], n: u16, p: u16, k: u16) -> bool
+    requires { ⌜ Listed (now run) (now index) × Clocks (runIn (now run)) (clockIn (now index)) × (n ≡ headOf (now run) .processes) × IsState (runIn (now run)) p k ⌝ }
     ensures { λ r. ⌜ Compared (now (run .entry)) p k r ⌝ }
 {
-    let row = 8 * slot_of(p, k);
-    let at = place_of(places, p, k) + 34;
+    let at = place_of(index, p, k) + 34;
     let mut i: u16 = 0;
     while i < n {
-        let x = i as usize;
-        if u16_at(run, at + 2 * x) != clocks[row + x] {
+        if u16_at(run, at + 2 * (i as usize)) != clock_at(index, p, k, i) {
             return true;
         }
         i += 1;
@@ -185,15 +157,14 @@ fn differs(run: &[u8], places: &[u16], clocks: &[u16], n: u16, p: u16, k: u16) -
 }
 
 // The first state of process p with such a number, or 0.
-fn clock_fault(run: &[u8], counts: &[u16], places: &[u16], clocks: &[u16], n: u16, p: u16) -> u16
-    requires { ⌜ Listed (now run) (now counts) (now places) × Clocks (runIn (now run)) (clockIn (now clocks)) × (length (now clocks) ≡ 32768) × (n ≡ headOf (now run) .processes) × (p < n) ⌝ }
+fn clock_fault(run: &[u8], index: &[u16], n: u16, p: u16) -> u16
+    requires { ⌜ Listed (now run) (now index) × Clocks (runIn (now run)) (clockIn (now index)) × (n ≡ headOf (now run) .processes) × (p < n) ⌝ }
     ensures { λ r. ⌜ FirstOf (now (run .entry)) (WrongClock (now (run .entry))) p r ⌝ }
 {
-    let row = p as usize;
-    let count = counts[row];
+    let count = count_of(index, p);
     let mut k: u16 = 1;
     while k <= count {
-        if differs(run, places, clocks, n, p, k) {
+        if differs(run, index, n, p, k) {
             return k;
         }
         k += 1;
@@ -202,20 +173,13 @@ fn clock_fault(run: &[u8], counts: &[u16], places: &[u16], clocks: &[u16], n: u1
 }
 
 // Of every process, into `bad`.
-pub fn clock_faults(
-    run: &[u8],
-    counts: &[u16],
-    places: &[u16],
-    clocks: &[u16],
-    bad: &mut [u16],
-    n: u16,
-)
-    requires { ⌜ Listed (now run) (now counts) (now places) × Clocks (runIn (now run)) (clockIn (now clocks)) × (length (now clocks) ≡ 32768) × (length (now bad) ≡ 8) × (n ≡ headOf (now run) .processes) ⌝ }
+pub fn clock_faults(run: &[u8], index: &[u16], bad: &mut [u16], n: u16)
+    requires { ⌜ Listed (now run) (now index) × Clocks (runIn (now run)) (clockIn (now index)) × (length (now bad) ≡ 8) × (n ≡ headOf (now run) .processes) ⌝ }
     ensures { λ _. ⌜ FirstsTo (now (run .entry)) (WrongClock (now (run .entry))) n (now (bad .exit)) ⌝ }
 {
     let mut p: u16 = 0;
     while p < n {
-        let first = clock_fault(run, counts, places, clocks, n, p);
+        let first = clock_fault(run, index, n, p);
         let row = p as usize;
         bad[row] = first;
         p += 1;

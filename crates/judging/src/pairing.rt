@@ -4,17 +4,18 @@ use crate::First;
 use crate::faults::earliest;
 use model::Event;
 use model::Message;
-use run::slots::event_at;
-use run::slots::slot_of;
+use run::index::count_of;
+use run::index::enter_partner;
+use run::index::event_at;
 use run::states::channel_at;
 ghost use mathlib.Core.Path.{_≡_};
 ghost use mathlib.Core.Bool.{true, false};
 ghost use Prim.Native.Nat.{_+_, _*_, _≤_, _<_};
-ghost use lib.ListN.{length, replicate};
+ghost use lib.ListN.{length};
 ghost use Rattle.model.specs.Run.{count, into, channel, IsState};
 ghost use Rattle.record.specs.Record.{headOf};
 ghost use Rattle.run.specs.Said.{runIn};
-ghost use Rattle.run.specs.Tables.{Placed, Listed};
+ghost use Rattle.run.specs.Tables.{Listed, Fresh};
 ghost use Rattle.judging.specs.Inner.{PairingJudged};
 ghost use Rattle.judging.specs.Pairing.{carries, Found, entry, Rising, Repeats, Received, Settled, Row, Rows};
 
@@ -34,19 +35,19 @@ fn carries_it(event: Event, sends: bool, message: Message) -> bool
 // The first of states low to high of process p that sends, or receives, the message; 0 where none does.
 fn find(
     run: &[u8],
-    places: &[u16],
+    index: &[u16],
     p: u16,
     low: u16,
     high: u16,
     sends: bool,
     message: Message,
 ) -> u16
-    requires { ⌜ Placed (now run) (now places) × (p < headOf (now run) .processes) × (1 ≤ low) × (high ≤ count (runIn (now run)) p) ⌝ }
+    requires { ⌜ Listed (now run) (now index) × (p < headOf (now run) .processes) × (1 ≤ low) × (high ≤ count (runIn (now run)) p) ⌝ }
     ensures { λ r. ⌜ Found (runIn (now (run .entry))) p low high sends message r ⌝ }
 {
     let mut k = low;
     while k <= high {
-        let event = event_at(run, places, p, k);
+        let event = event_at(run, index, p, k);
         if carries_it(event, sends, message) {
             return k;
         }
@@ -68,14 +69,14 @@ fn entry_of(sends: bool, channel: u16) -> usize
 // Whether an earlier state sent, or received, the message of state k. Numbers that rise on a channel need no look back: the marks are above all so far.
 fn repeated(
     run: &[u8],
-    places: &[u16],
+    index: &[u16],
     marks: &mut [u64],
     p: u16,
     k: u16,
     sends: bool,
     message: Message,
 ) -> bool
-    requires { ⌜ Placed (now run) (now places) × IsState (runIn (now run)) p k × (length (now marks) ≡ 32) × (message .channel < 16) × Rising (runIn (now run)) sends p k (now marks) ⌝ }
+    requires { ⌜ Listed (now run) (now index) × IsState (runIn (now run)) p k × (length (now marks) ≡ 32) × (message .channel < 16) × Rising (runIn (now run)) sends p k (now marks) ⌝ }
     ensures { λ r. ⌜ Repeats (runIn (now (run .entry))) p k sends message (now (marks .entry)) (now (marks .exit)) r ⌝ }
 {
     let i = entry_of(sends, message.channel);
@@ -84,7 +85,7 @@ fn repeated(
         marks[i] = number + 1;
         return false;
     }
-    find(run, places, p, 1, k - 1, sends, message) != 0
+    find(run, index, p, 1, k - 1, sends, message) != 0
 }
 
 // Where to look for the next send on a channel: behind the last one found.
@@ -95,17 +96,16 @@ fn behind(hint: u16, count: u16) -> u16
 }
 
 // The state of the channel's sender that sends the message; 0 where none does.
-fn send_of(run: &[u8], counts: &[u16], places: &[u16], hints: &mut [u16], message: Message) -> u16
-    requires { ⌜ Listed (now run) (now counts) (now places) × (length (now hints) ≡ 16) × (message .channel < headOf (now run) .channels) ⌝ }
+fn send_of(run: &[u8], index: &[u16], hints: &mut [u16], message: Message) -> u16
+    requires { ⌜ Listed (now run) (now index) × (length (now hints) ≡ 16) × (message .channel < headOf (now run) .channels) ⌝ }
     ensures { λ r. ⌜ Found (runIn (now (run .entry))) (channel (runIn (now (run .entry))) (message .channel) .from) 1 (count (runIn (now (run .entry))) (channel (runIn (now (run .entry))) (message .channel) .from)) true message r ⌝ }
 {
     let c = message.channel as usize;
     let from = channel_at(run, message.channel).from;
-    let row = from as usize;
-    let count = counts[row];
+    let count = count_of(index, from);
     let near = find(
         run,
-        places,
+        index,
         from,
         behind(hints[c], count),
         count,
@@ -116,81 +116,59 @@ fn send_of(run: &[u8], counts: &[u16], places: &[u16], hints: &mut [u16], messag
         hints[c] = near;
         return near;
     }
-    find(run, places, from, 1, count, true, message)
+    find(run, index, from, 1, count, true, message)
 }
 
 // Enters a receive and its send as each other's partner; true where there is no such send.
-fn enter(
-    run: &[u8],
-    counts: &[u16],
-    places: &[u16],
-    partners: &mut [u16],
-    hints: &mut [u16],
-    p: u16,
-    k: u16,
-    message: Message,
-) -> bool
-    requires { ⌜ Listed (now run) (now counts) (now places) × (length (now partners) ≡ 4096) × (length (now hints) ≡ 16) × IsState (runIn (now run)) p k × (into (runIn (now run)) p k ≡ Event.Receive message) ⌝ }
-    ensures { λ r. ⌜ Received (runIn (now (run .entry))) p k (now (partners .entry)) (now (partners .exit)) r ⌝ }
+fn enter(run: &[u8], index: &mut [u16], hints: &mut [u16], p: u16, k: u16, message: Message) -> bool
+    requires { ⌜ Listed (now run) (now index) × (length (now hints) ≡ 16) × IsState (runIn (now run)) p k × (into (runIn (now run)) p k ≡ Event.Receive message) ⌝ }
+    ensures { λ r. ⌜ Received (runIn (now (run .entry))) p k (now (index .entry)) (now (index .exit)) r × Listed (now (run .entry)) (now (index .exit)) ⌝ }
 {
-    let l = send_of(run, counts, places, hints, message);
+    let l = send_of(run, index, hints, message);
     if l == 0 {
         return true;
     }
     let from = channel_at(run, message.channel).from;
-    let other = slot_of(from, l);
-    let own = slot_of(p, k);
-    partners[other] = k;
-    partners[own] = l;
+    enter_partner(index, from, l, k);
+    enter_partner(index, p, k, l);
     false
 }
 
 // Judges state k of process p, and enters what it receives; true where it is a second send or receive, or a receive with no send.
 fn settle(
     run: &[u8],
-    counts: &[u16],
-    places: &[u16],
-    partners: &mut [u16],
+    index: &mut [u16],
     marks: &mut [u64],
     hints: &mut [u16],
     p: u16,
     k: u16,
 ) -> bool
-    requires { ⌜ Listed (now run) (now counts) (now places) × (length (now partners) ≡ 4096) × (length (now marks) ≡ 32) × (length (now hints) ≡ 16) × IsState (runIn (now run)) p k × Rising (runIn (now run)) true p k (now marks) × Rising (runIn (now run)) false p k (now marks) ⌝ }
-    ensures { λ r. ⌜ Settled (runIn (now (run .entry))) p k (now (partners .entry)) (now (partners .exit)) (now (marks .entry)) (now (marks .exit)) r ⌝ }
+    requires { ⌜ Listed (now run) (now index) × (length (now marks) ≡ 32) × (length (now hints) ≡ 16) × IsState (runIn (now run)) p k × Rising (runIn (now run)) true p k (now marks) × Rising (runIn (now run)) false p k (now marks) ⌝ }
+    ensures { λ r. ⌜ Settled (runIn (now (run .entry))) p k (now (index .entry)) (now (index .exit)) (now (marks .entry)) (now (marks .exit)) r × Listed (now (run .entry)) (now (index .exit)) ⌝ }
 {
-    let event = event_at(run, places, p, k);
+    let event = event_at(run, index, p, k);
     match event {
         Event::Start => false,
         Event::Internal => false,
-        Event::Send(m) => repeated(run, places, marks, p, k, true, m),
+        Event::Send(m) => repeated(run, index, marks, p, k, true, m),
         Event::Receive(m) => {
-            if repeated(run, places, marks, p, k, false, m) {
+            if repeated(run, index, marks, p, k, false, m) {
                 return true;
             }
-            enter(run, counts, places, partners, hints, p, k, m)
+            enter(run, index, hints, p, k, m)
         }
     }
 }
 
 // The first faulty state of process p, or 0; what its states receive is entered.
-fn pair_row(
-    run: &[u8],
-    counts: &[u16],
-    places: &[u16],
-    partners: &mut [u16],
-    marks: &mut [u64],
-    hints: &mut [u16],
-    p: u16,
-) -> u16
-    requires { ⌜ Listed (now run) (now counts) (now places) × (length (now partners) ≡ 4096) × (length (now marks) ≡ 32) × (length (now hints) ≡ 16) × (p < headOf (now run) .processes) ⌝ }
-    ensures { λ r. ⌜ Row (runIn (now (run .entry))) p (now (partners .entry)) (now (partners .exit)) r ⌝ }
+fn pair_row(run: &[u8], index: &mut [u16], marks: &mut [u64], hints: &mut [u16], p: u16) -> u16
+    requires { ⌜ Listed (now run) (now index) × (length (now marks) ≡ 32) × (length (now hints) ≡ 16) × (p < headOf (now run) .processes) ⌝ }
+    ensures { λ r. ⌜ Row (runIn (now (run .entry))) p (now (index .entry)) (now (index .exit)) r × Listed (now (run .entry)) (now (index .exit)) ⌝ }
 {
-    let row = p as usize;
-    let count = counts[row];
+    let count = count_of(index, p);
     let mut k: u16 = 1;
     while k <= count {
-        if settle(run, counts, places, partners, marks, hints, p, k) {
+        if settle(run, index, marks, hints, p, k) {
             return k;
         }
         k += 1;
@@ -199,22 +177,15 @@ fn pair_row(
 }
 
 // Every process: its first faulty state, or 0, into `bad`, and the partners.
-pub fn pair_all(
-    run: &[u8],
-    counts: &[u16],
-    places: &[u16],
-    partners: &mut [u16],
-    bad: &mut [u16],
-    n: u16,
-)
-    requires { ⌜ Listed (now run) (now counts) (now places) × (now partners ≡ replicate 4096 0) × (length (now bad) ≡ 8) × (n ≡ headOf (now run) .processes) ⌝ }
-    ensures { λ _. ⌜ Rows (runIn (now (run .entry))) n (now (bad .exit)) (now (partners .exit)) ⌝ }
+pub fn pair_all(run: &[u8], index: &mut [u16], bad: &mut [u16], n: u16)
+    requires { ⌜ Listed (now run) (now index) × Fresh 4104 (now index) × (length (now bad) ≡ 8) × (n ≡ headOf (now run) .processes) ⌝ }
+    ensures { λ _. ⌜ Rows (runIn (now (run .entry))) n (now (bad .exit)) (now (index .exit)) × Listed (now (run .entry)) (now (index .exit)) ⌝ }
 {
     let mut marks = [0u64; 32];
     let mut hints = [0u16; 16];
     let mut p: u16 = 0;
     while p < n {
-        let first = pair_row(run, counts, places, partners, &mut marks, &mut hints, p);
+        let first = pair_row(run, index, &mut marks, &mut hints, p);
         let row = p as usize;
         bad[row] = first;
         p += 1;
@@ -222,17 +193,11 @@ pub fn pair_all(
 }
 
 // The first record in file order that is a second send or receive, or a receive with no send; where there is none, the partners.
-pub fn first_unpaired(
-    run: &[u8],
-    counts: &[u16],
-    places: &[u16],
-    partners: &mut [u16],
-    n: u16,
-) -> First
-    requires { ⌜ Listed (now run) (now counts) (now places) × (now partners ≡ replicate 4096 0) × (n ≡ headOf (now run) .processes) ⌝ }
-    ensures { λ r. ⌜ PairingJudged (now (run .entry)) (now (partners .exit)) r ⌝ }
+pub fn first_unpaired(run: &[u8], index: &mut [u16], n: u16) -> First
+    requires { ⌜ Listed (now run) (now index) × Fresh 4104 (now index) × (n ≡ headOf (now run) .processes) ⌝ }
+    ensures { λ r. ⌜ PairingJudged (now (run .entry)) (now (index .exit)) r × Listed (now (run .entry)) (now (index .exit)) ⌝ }
 {
     let mut bad = [0u16; 8];
-    pair_all(run, counts, places, partners, &mut bad, n);
-    earliest(run, places, &bad, n)
+    pair_all(run, index, &mut bad, n);
+    earliest(run, index, &bad, n)
 }

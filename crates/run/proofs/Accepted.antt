@@ -25,7 +25,7 @@ use Rattle.run.specs.Read.{countsOf, ended, more, isEnd, readFrom, readO
 use Rattle.run.specs.Read.Verdict.{refused, accepted}
 use Rattle.record.proofs.Laws.{orIf-ok}
 use Rattle.run.proofs.Laws.{HeadOk, head-ok, line-ok, StateOk, state-ok, none-lacks, end-there}
-use Rattle.run.proofs.Index.{counts-at}
+use Rattle.run.proofs.Indexing.{counts-at}
 use Rattle.run.proofs.Here.{stepped, read-refused, read-judged, read-end, read-more, read-short, read-long}
 
 module _ (s : List ℕ) where

@@ -1,4 +1,4 @@
--- The pass so far: what is left to read from here gives the whole, and the tables hold the states so far.
+-- The pass so far: what is left to read from here gives the whole, and the index holds the states so far.
 use mathlib.Core.Path.{_≡_, refl, sym, ap, _∙_}
 use mathlib.Core.Logic.{_⊎_, inl, inr, ⊎-elim}
 use mathlib.Core.Bool.{Bool, true, false, cond}
@@ -7,7 +7,8 @@ use Prim.Native.Nat.{ℕ, zero, suc, _+_, _≤_, _<_}
 use native.Mathlib.Omega.{arith}
 use borrow.Author.Tests.{eq-eqb, ne-eqb, eqb-true, lt-ltb, le-ltb}
 use lib.Dec.{eqb, ltb}
-use lib.ListN.{length, replicate}
+use lib.ListN.{length, getD, replicate, take, getD-replicate, length-replicate, List·getD-eq-default}
+use lib.Seq.{getD-take}
 use Rattle.record.specs.Refusal.{refusal}
 use Rattle.record.specs.Record.{lengthAt, headOf, openingNo, stepNo, recordAt, stepAt}
 use Rattle.record.specs.declared.File.the-variants.{Run}
@@ -21,11 +22,12 @@ use Rattle.run.specs.States.{placesOf}
 use Rattle.run.specs.Judge.{judgeNo}
 use Rattle.run.specs.Read.{Verdict, countsOf, ended, more, isEnd, readFrom, readOf}
 use Rattle.run.specs.Inner.{reading, Passed}
-use Rattle.run.specs.Tables.{Indexed}
+use Rattle.run.specs.Tables.{Indexed, Fresh}
 use Rattle.run.specs.Read.Verdict.{refused, accepted}
 use Rattle.run.specs.Inner.{Roomy, Noted}
 use Rattle.run.proofs.Laws.{head-ok, state-ok, state-there}
-use Rattle.run.proofs.Index.{index-more}
+use Rattle.run.proofs.Indexing.{index-more, fresh-more}
+use Rattle.model.proofs.Lists.{le-or-lt}
 
 -- ---- what a step that gives a record tells
 
@@ -73,35 +75,45 @@ module _ (f : ℕ) (s : List ℕ) (at : ℕ) (qs : List ℕ) where
 
 -- ---- the pass so far
 
-pub record Here (s cs ps : List ℕ) (at : ℕ) : Type 0 where
+pub record Here (s ix : List ℕ) (at : ℕ) : Type 0 where
   pub states : List ℕ
   pub fuel : ℕ
   pub enough : length s < at + fuel
   pub same : readFrom (suc (length s)) s 0 [] ≡ readFrom fuel s at states
-  pub index : Indexed s states cs ps
+  pub index : Indexed s states ix
+  pub fresh : Fresh 4104 ix
+  pub long : length ix ≡ 40968
   pub head : (at ≡ 0) ⊎ (headOf s .processes ≤ 8)
 
-pub here-start : (s cs ps : List ℕ) → cs ≡ replicate 8 0 → Here s cs ps 0
+pub here-start : (s ix : List ℕ) → ix ≡ replicate 40968 0 → Here s ix 0
 unfolding countsOf placesOf Rattle.run.specs.States.tabulate
-here-start s cs ps e = record {
+here-start s ix e = record {
   states = [];
   fuel = suc (length s);
   enough = omega arith;
   same = refl;
-  index = record { counted = e; few = λ p l. omega arith; placed = λ p i l h. absurd (omega arith) };
+  index = record { counted = ap (take 8) e; few = λ p l. omega arith; placed = λ p i l h. absurd (omega arith) };
+  fresh = λ x h. ap (λ l. getD l x 0) e ∙ zero-at x;
+  long = ap length e ∙ length-replicate {A = ℕ} 40968 0;
   head = inl refl;
 }
+  where
+    zero-at : (x : ℕ) → _≡_ {A = ℕ} (getD (replicate 40968 0) x 0) 0
+    zero-at x = ⊎-elim (λ h. getD-replicate 40968 x 0 0 h) (λ h. List·getD-eq-default (replicate 40968 0) 0 {n = x} (omega (arith, length-replicate {A = ℕ} 40968 0))) (le-or-lt (suc x) 40968)
 
 -- the pass has fuel for one more record
 one-more : (s : List ℕ) (at f : ℕ) → length s < at + f → at ≤ length s → (g : ℕ) × (f ≡ suc g)
 one-more s at zero h l = absurd (omega arith)
 one-more s at (suc g) h l = (g, refl)
 
-module _ (s cs ps : List ℕ) (at : ℕ) (here : Here s cs ps at) (l : at ≤ length s) where
+module _ (s ix : List ℕ) (at : ℕ) (here : Here s ix at) (l : at ≤ length s) where
+  abbrev cs : List ℕ
+  cs = take 8 ix
+
   abbrev qs : List ℕ
   qs = here .states
 
-  -- the counts of the tables are those that the definition counts
+  -- the counts of the index are those that the definition counts
   judged : (r : Record) → judgeNo s cs at r ≡ judgeNo s (countsOf s qs) at r
   judged r = ap (λ l. judgeNo s l at r) (here .index .counted)
 
@@ -121,15 +133,18 @@ module _ (s cs ps : List ℕ) (at : ℕ) (here : Here s cs ps at) (l : at ≤ le
     here-end n e = turn (ended s next qs) (λ f. read-end f s at qs next r got (sym (judged r) ∙ n) e)
 
     -- a record that isn't the end, and what is noted of it
-    more-index : (r : Record) → r ≡ recordAt s at → openingNo s at ≡ 0 → judgeNo s cs at r ≡ 0 → length ps ≡ 4096 → (cs′ ps′ : List ℕ)
-        → (headOf s .processes ≤ 8) → Noted r at cs ps cs′ ps′ → Indexed s (more r at qs) cs′ ps′
-    more-index (R.Head h) e o n long cs′ ps′ few w = rw (w .0, w .1) (here .index)
-    more-index (R.Channel m) e o n long cs′ ps′ few w = rw (w .0, w .1) (here .index)
-    more-index R.End e o n long cs′ ps′ few w = rw (w .0, w .1) (here .index)
-    more-index (R.State f) e o n long cs′ ps′ few w =
+    more-index : (r : Record) → r ≡ recordAt s at → openingNo s at ≡ 0 → judgeNo s cs at r ≡ 0 → (ix′ : List ℕ)
+        → (headOf s .processes ≤ 8) → Noted r at ix ix′ → Indexed s (more r at qs) ix′ × Fresh 4104 ix′
+    more-index (R.Head h) e o n ix′ few w = rw w (here .index, here .fresh)
+    more-index (R.Channel m) e o n ix′ few w = rw w (here .index, here .fresh)
+    more-index R.End e o n ix′ few w = rw w (here .index, here .fresh)
+    more-index (R.State f) e o n ix′ few w =
         let t = state-there s at f o (sym e) in
         let k = state-ok s cs f n in
-        rw (w .0, w .1) (index-more s qs cs ps at (f .process) (ap (λ x. x .process) (sym (t .fields))) (here .index) (omega (arith, k .names .process)) long (k .room))
+        let own = ap (λ x. x .process) (sym (t .fields)) in
+        let row : f .process < 8 = omega (arith, k .names .process) in
+        let room : getD ix (f .process) 0 < 512 = rw (getD-take 8 ix (f .process) 0 row) at (k .room) in
+        rw w (index-more s qs ix at (f .process) own (here .index) row (here .long) room, fresh-more s qs ix at (f .process) own (here .index) row room (here .fresh))
 
     -- behind the first record the number of processes is known to be right
     few-processes : (r : Record) → r ≡ recordAt s at → openingNo s at ≡ 0 → judgeNo s cs at r ≡ 0 → headOf s .processes ≤ 8
@@ -143,28 +158,34 @@ module _ (s cs ps : List ℕ) (at : ℕ) (here : Here s cs ps at) (l : at ≤ le
             (λ h a k e n. absurd (a z))
             refl (rw (← e) n)
 
-    pub here-more : judgeNo s cs at r ≡ 0 → isEnd r ≡ false → length ps ≡ 4096 → (cs′ ps′ : List ℕ) → Noted r at cs ps cs′ ps′ → Here s cs′ ps′ next
-    here-more n e long cs′ ps′ w =
+    pub here-more : judgeNo s cs at r ≡ 0 → isEnd r ≡ false → (ix′ : List ℕ) → length ix′ ≡ length ix → Noted r at ix ix′ → Here s ix′ next
+    here-more n e ix′ long w =
         let d = stepped s at next r got in
         let (g, k) = one-more s at (here .fuel) (here .enough) l in
-        let few = few-processes r (d .item) (d .opening) n in record {
+        let few = few-processes r (d .item) (d .opening) n in
+        let i = more-index r (d .item) (d .opening) n ix′ few w in record {
           states = more r at qs;
           fuel = g;
           enough = omega (arith, d .further, here .enough, k);
           same = here .same ∙ ap (λ f. readFrom f s at qs) k ∙ read-more g s at qs next r got (sym (judged r) ∙ n) e;
-          index = more-index r (d .item) (d .opening) n long cs′ ps′ few w;
+          index = i .0;
+          fresh = i .1;
+          long = long ∙ here .long;
           head = inr few;
         }
 
     -- what keeping a state requires
-    pub here-roomy : judgeNo s cs at r ≡ 0 → Roomy r cs
+    pub here-roomy : judgeNo s cs at r ≡ 0 → Roomy r ix
     here-roomy n = let d = stepped s at next r got in go r (d .item) (few-processes r (d .item) (d .opening) n) n
       where
-        go : (r : Record) → r ≡ recordAt s at → headOf s .processes ≤ 8 → judgeNo s cs at r ≡ 0 → Roomy r cs
+        go : (r : Record) → r ≡ recordAt s at → headOf s .processes ≤ 8 → judgeNo s cs at r ≡ 0 → Roomy r ix
         go (R.Head h) e few n = tt
         go (R.Channel m) e few n = tt
         go R.End e few n = tt
-        go (R.State f) e few n = let k = state-ok s cs f n in (omega (arith, k .names .process), k .room)
+        go (R.State f) e few n =
+            let k = state-ok s cs f n in
+            let row : f .process < 8 = omega (arith, k .names .process) in
+            (row, rw (getD-take 8 ix (f .process) 0 row) at (k .room))
 
     -- what judging requires of the head
     pub here-opened : (openingNo s at ≡ 0) × (r ≡ recordAt s at)
@@ -172,20 +193,24 @@ module _ (s cs ps : List ℕ) (at : ℕ) (here : Here s cs ps at) (l : at ≤ le
 
 -- ---- the pass's answer at each way out
 
-pub passed-refused : (s : List ℕ) {v : Verdict} (x : Refusal) (cs ps : List ℕ) {r : Reading} → v ≡ refused x → r ≡ reading s (refused x) → Passed s v r cs ps
-passed-refused s x cs ps e a = record { answer = a ∙ ap (reading s) (sym e); index = λ qs z. absurd (let z : _≡_ {A = ℕ} 0 1 = cc in omega arith) }
+pub passed-refused : (s : List ℕ) {v : Verdict} (x : Refusal) (ix : List ℕ) {r : Reading} → v ≡ refused x → r ≡ reading s (refused x) → Passed s v r ix
+passed-refused s x ix e a = record {
+  answer = a ∙ ap (reading s) (sym e);
+  index = λ qs z. absurd (let z : _≡_ {A = ℕ} 0 1 = cc in omega arith);
+  fresh = λ qs z. absurd (let z : _≡_ {A = ℕ} 0 1 = cc in omega arith);
+}
 
-pub passed-end : (s : List ℕ) {v : Verdict} (next : ℕ) (qs cs ps : List ℕ) {r : Reading} → Indexed s qs cs ps
-    → v ≡ ended s next qs → r ≡ reading s (ended s next []) → Passed s v r cs ps
+pub passed-end : (s : List ℕ) {v : Verdict} (next : ℕ) (qs ix : List ℕ) {r : Reading} → Indexed s qs ix → Fresh 4104 ix
+    → v ≡ ended s next qs → r ≡ reading s (ended s next []) → Passed s v r ix
 unfolding ended
-passed-end s {v} next qs cs ps {r} w e a = go (ltb next (length s)) e a
+passed-end s {v} next qs ix {r} w f e a = go (ltb next (length s)) e a
   where
     x : Refusal
     x = record { file = Run; number = 4; place = next; after = true }
 
-    go : (t : Bool) → v ≡ cond t (refused x) (accepted qs) → r ≡ reading s (cond t (refused x) (accepted [])) → Passed s v r cs ps
-    go true e a = passed-refused s x cs ps e a
-    go false e a = record { answer = a ∙ ap (reading s) (sym e); index = λ qs′ z. let same : qs ≡ qs′ = cc in rw (← same) w }
+    go : (t : Bool) → v ≡ cond t (refused x) (accepted qs) → r ≡ reading s (cond t (refused x) (accepted [])) → Passed s v r ix
+    go true e a = passed-refused s x ix e a
+    go false e a = record { answer = a ∙ ap (reading s) (sym e); index = λ qs′ z. let same : qs ≡ qs′ = cc in rw (← same) w; fresh = λ qs′ z. f }
 
 -- ---- the length of the file
 

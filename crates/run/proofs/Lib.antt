@@ -1,8 +1,9 @@
 pub mod Laws
 pub mod Tabulate
-pub mod Index
+pub mod Indexing
 pub mod Here
 pub mod Places
 pub mod Accepted
 pub mod Sides
 pub mod Listed
+pub mod Kept

@@ -6,6 +6,7 @@ use Prim.Native.Nat.{ℕ, zero, suc, _+_, _-_, _*_, _≤_, _<_}
 use native.Mathlib.Nat.{mul-le-mul-left, mul-suc}
 use native.Mathlib.Omega.{arith}
 use lib.ListN.{length, getD}
+use lib.Seq.{getD-take}
 use Rattle.model.specs.Run.{processes, count, state, into, channel, IsState, Sides}
 use Rattle.model.proofs.Lists.{le-or-lt}
 use Rattle.record.specs.Record.{headOf, fieldsAt}
@@ -13,8 +14,8 @@ use Rattle.run.specs.States.{eventOf, channelAt, placesOf}
 use Rattle.run.specs.Read.{readOf}
 use Rattle.run.specs.Read.Verdict.{accepted}
 use Rattle.run.specs.Said.{statesOf, runIn, placeOf}
-use Rattle.run.specs.Tables.{slot, HasSlot, Placed, Listed}
-use Rattle.run.proofs.Index.{counts-at, counts-length}
+use Rattle.run.specs.Tables.{placeAt, HasSlot, Listed}
+use Rattle.run.proofs.Indexing.{counts-at}
 use Rattle.run.proofs.Places.{stands, places-grow}
 use Rattle.run.proofs.Accepted.{size, Accepted, run-accepted}
 use Rattle.run.proofs.Sides.{run-processes, run-channels, run-channel, run-count, run-process, state-judged, run-sides}
@@ -102,39 +103,34 @@ module _ (s : List ℕ) (read : readOf s ≡ accepted (statesOf s)) where
       let l : k′ < length (placesOf s qs p) = omega (arith, w′ .there, count-is p (process-of w)) in
       omega (arith, place-at p k, place-at p k′, rise p k k′ (omega arith) l)
 
--- ---- by the tables
+-- ---- by the index
 
-pub listed-places : {s cs ps : List ℕ} → Listed s cs ps → Placed s ps
-listed-places w = record { read = w .read; few = w .index .few; placed = w .index .placed; long = w .long }
+module _ (s ix : List ℕ) (w : Listed s ix) where
+  pub listed-eight : (p : ℕ) → p < headOf s .processes → p < 8
+  listed-eight p h = omega (arith, ok s (w .read) .head .few)
 
-module _ (s ps : List ℕ) (w : Placed s ps) where
-  pub placed-eight : (p : ℕ) → p < headOf s .processes → p < 8
-  placed-eight p h = omega (arith, ok s (w .read) .head .few)
+  pub listed-few : (p : ℕ) → p < headOf s .processes → count (runIn s) p ≤ 512
+  listed-few p h = omega (arith, w .index .few p (listed-eight p h), count-is s (w .read) p h)
 
-  pub placed-few : (p : ℕ) → p < headOf s .processes → count (runIn s) p ≤ 512
-  placed-few p h = omega (arith, w .few p (placed-eight p h), count-is s (w .read) p h)
+  pub listed-count : (p : ℕ) → p < headOf s .processes → getD ix p 0 ≡ count (runIn s) p
+  listed-count p h =
+      let l = listed-eight p h in
+      sym (getD-take 8 ix p 0 l) ∙ ap (λ l. getD l p 0) (w .index .counted) ∙ counts-at s (statesOf s) p l ∙ sym (count-is s (w .read) p h)
 
-  -- a state has an entry
-  pub placed-slot : {p k : ℕ} → IsState (runIn s) p k → HasSlot p k
-  placed-slot t =
+  -- a state has entries
+  pub listed-slot : {p k : ℕ} → IsState (runIn s) p k → HasSlot p k
+  listed-slot t =
       let h = process-of s (w .read) t in
-      record { process = placed-eight _ h; counted = t .counted; few = omega (arith, t .there, placed-few _ h) }
+      record { process = listed-eight _ h; counted = t .counted; few = omega (arith, t .there, listed-few _ h) }
 
-  pub placed-at : (p k : ℕ) → IsState (runIn s) p k → getD ps (slot p k) 0 ≡ placeOf s p k
-  placed-at p k t =
+  pub listed-at : (p k : ℕ) → IsState (runIn s) p k → getD ix (placeAt p k) 0 ≡ placeOf s p k
+  listed-at p k t =
       let h = process-of s (w .read) t in
-      w .placed p (k - 1) (placed-eight p h) (omega (arith, t .there, t .counted, count-is s (w .read) p h))
+      w .index .placed p (k - 1) (listed-eight p h) (omega (arith, t .there, t .counted, count-is s (w .read) p h))
 
-  -- the record at a state's entry is whole, and says the event
-  pub placed-whole : (p k : ℕ) → IsState (runIn s) p k → getD ps (slot p k) 0 + size s ≤ length s
-  placed-whole p k t = rw (placed-at p k t) (place-whole s (w .read) p k t)
+  -- the record at a state's place is whole, and says the event
+  pub listed-whole : (p k : ℕ) → IsState (runIn s) p k → getD ix (placeAt p k) 0 + size s ≤ length s
+  listed-whole p k t = rw (listed-at p k t) (place-whole s (w .read) p k t)
 
-  pub placed-event : (p k : ℕ) → IsState (runIn s) p k → eventOf (fieldsAt s (getD ps (slot p k) 0)) ≡ into (runIn s) p k
-  placed-event p k t = ap (λ q. eventOf (fieldsAt s q)) (placed-at p k t) ∙ sym (event-is s (w .read) p k t)
-
-pub listed-count : (s cs ps : List ℕ) → Listed s cs ps → (p : ℕ) → p < headOf s .processes → getD cs p 0 ≡ count (runIn s) p
-listed-count s cs ps w p h =
-    ap (λ l. getD l p 0) (w .index .counted) ∙ counts-at s (statesOf s) p (placed-eight s ps (listed-places w) p h) ∙ sym (count-is s (w .read) p h)
-
-pub listed-eight : {s cs ps : List ℕ} → Listed s cs ps → length cs ≡ 8
-listed-eight {s} w = ap length (w .index .counted) ∙ counts-length s (statesOf s)
+  pub listed-event : (p k : ℕ) → IsState (runIn s) p k → eventOf (fieldsAt s (getD ix (placeAt p k) 0)) ≡ into (runIn s) p k
+  listed-event p k t = ap (λ q. eventOf (fieldsAt s q)) (listed-at p k t) ∙ sym (event-is s (w .read) p k t)

@@ -1,7 +1,7 @@
-// A run read record by record. `judge` has the tests of one record beside what is known so far, `pass` goes over all records, `states` says what stands in a state record, `slots` where the tables hold a state.
+// A run read record by record. `judge` has the tests of one record beside what is known so far, `pass` goes over all records, `states` says what stands in a state record, `index` is the table that holds where each state stands.
+pub mod index;
 pub mod judge;
 pub mod pass;
-pub mod slots;
 pub mod states;
 
 use model::Event;

@@ -1,5 +1,6 @@
 // The pass over a run's records: refusals 1 to 10, and an index of the states.
 use crate::Reading;
+use crate::index::keep;
 use crate::judge::judge_no;
 use record::File;
 use record::Record;
@@ -11,23 +12,12 @@ use record::reasons::KIND;
 use record::reasons::TOO_LONG;
 use record::reasons::refusal_of;
 ghost use mathlib.Core.Path.{_≡_};
-ghost use Prim.Native.Nat.{suc, _+_, _*_, _≤_, _<_};
+ghost use Prim.Native.Nat.{suc, _≤_};
 ghost use mathlib.Core.List.{[]};
-ghost use lib.ListN.{length, getD, set, replicate};
+ghost use lib.ListN.{length, replicate};
 ghost use Rattle.run.specs.Read.{isEnd, readFrom, readOf, ended};
 ghost use Rattle.run.specs.Inner.{reading, Passed};
 ghost use Rattle.run.specs.Inner.{handUp, Roomy, Noted};
-
-// All zero.
-fn clear(t: &mut [u16])
-    ensures { λ _. ⌜ now (t .exit) ≡ replicate (length (now (t .entry))) 0 ⌝ }
-{
-    let mut i = 0;
-    while i < t.len() {
-        t[i] = 0;
-        i += 1;
-    }
-}
 
 // The refusal that a step gave, as the pass's answer. (A step that gave a record is never handed up.)
 fn hand_up(step: Step) -> Reading
@@ -65,35 +55,23 @@ fn end_of(run: &[u8], next: usize) -> Reading
     Reading::Accepted(head_of(run))
 }
 
-// Process p has one state more, at the place at.
-fn keep(counts: &mut [u16], places: &mut [u16], p: u16, at: usize)
-    requires { ⌜ (length (now counts) ≡ 8) × (length (now places) ≡ 4096) × (p < 8) × (getD (now counts) p 0 < 512) × (at ≤ 65535) ⌝ }
-    ensures { λ _. ⌜ (now (counts .exit) ≡ set (now (counts .entry)) p (getD (now (counts .entry)) p 0 + 1)) × (now (places .exit) ≡ set (now (places .entry)) (512 * p + getD (now (counts .entry)) p 0) at) ⌝ }
-{
-    let row = p as usize;
-    let count = counts[row];
-    let place = 512 * row + count as usize;
-    places[place] = at as u16;
-    counts[row] = count + 1;
-}
-
 // A state is kept; of any other record nothing is.
-fn note(counts: &mut [u16], places: &mut [u16], item: Record, at: usize)
-    requires { ⌜ (length (now counts) ≡ 8) × (length (now places) ≡ 4096) × Roomy item (now counts) × (at ≤ 65535) ⌝ }
-    ensures { λ _. ⌜ Noted item at (now (counts .entry)) (now (places .entry)) (now (counts .exit)) (now (places .exit)) ⌝ }
+fn note(index: &mut [u16], item: Record, at: usize)
+    requires { ⌜ (length (now index) ≡ 40968) × Roomy item (now index) × (at ≤ 65535) ⌝ }
+    ensures { λ _. ⌜ Noted item at (now (index .entry)) (now (index .exit)) ⌝ }
 {
     match item {
         Record::Head(_) => {}
         Record::Channel(_) => {}
-        Record::State(f) => keep(counts, places, f.process, at),
+        Record::State(f) => keep(index, f.process, at),
         Record::End => {}
     }
 }
 
 // Record by record from the front.
-fn read_records(run: &[u8], counts: &mut [u16], places: &mut [u16]) -> Reading
-    requires { ⌜ (length (now run) ≤ 65535) × (now counts ≡ replicate 8 0) × (length (now places) ≡ 4096) ⌝ }
-    ensures { λ r. ⌜ Passed (now (run .entry)) (readFrom (suc (length (now (run .entry)))) (now (run .entry)) 0 []) r (now (counts .exit)) (now (places .exit)) ⌝ }
+fn read_records(run: &[u8], index: &mut [u16]) -> Reading
+    requires { ⌜ (length (now run) ≤ 65535) × (now index ≡ replicate 40968 0) ⌝ }
+    ensures { λ r. ⌜ Passed (now (run .entry)) (readFrom (suc (length (now (run .entry)))) (now (run .entry)) 0 []) r (now (index .exit)) ⌝ }
 {
     let mut at: usize = 0;
     loop {
@@ -101,26 +79,25 @@ fn read_records(run: &[u8], counts: &mut [u16], places: &mut [u16]) -> Reading
         let Step::Got(item, next) = step else {
             break hand_up(step);
         };
-        let number = judge_no(run, counts, at, item);
+        let number = judge_no(run, &index[..8], at, item);
         if number != 0 {
             break Reading::Refused(refusal_of(File::Run, number, at));
         }
         if is_end(item) {
             break end_of(run, next);
         }
-        note(counts, places, item, at);
+        note(index, item, at);
         at = next;
     }
 }
 
-// The whole pass: a run's head with an index of its states in the lent tables, or the first refusal with its place.
-pub fn read_run(run: &[u8], counts: &mut [u16], places: &mut [u16]) -> Reading
-    requires { ⌜ (length (now counts) ≡ 8) × (length (now places) ≡ 4096) ⌝ }
-    ensures { λ r. ⌜ Passed (now (run .entry)) (readOf (now (run .entry))) r (now (counts .exit)) (now (places .exit)) ⌝ }
+// The whole pass: a run's head with its states in the lent index, which comes as zeros, or the first refusal with its place.
+pub fn read_run(run: &[u8], index: &mut [u16]) -> Reading
+    requires { ⌜ now index ≡ replicate 40968 0 ⌝ }
+    ensures { λ r. ⌜ Passed (now (run .entry)) (readOf (now (run .entry))) r (now (index .exit)) ⌝ }
 {
     if 65535 < run.len() {
         return Reading::Refused(refusal_of(File::Run, TOO_LONG, 0));
     }
-    clear(counts);
-    read_records(run, counts, places)
+    read_records(run, index)
 }

@@ -15,19 +15,16 @@ use Rattle.model.specs.Clause.{Clause, holds, Linear, Satisfies}
 use Rattle.model.proofs.Search.{Under, Moves, move-on, run-out, arrive, clock-moves, ones-cut, ones-under, all-tested}
 use Rattle.record.specs.Record.{headOf}
 use Rattle.run.specs.Said.{runIn}
-use Rattle.run.specs.Tables.{clockIn, Listed}
-use Rattle.run.proofs.Listed.{ok, processes-are, listed-count, listed-eight}
+use Rattle.run.specs.Tables.{clockIn}
+use Rattle.run.proofs.Listed.{ok, processes-are, listed-count}
 use Rattle.condition.specs.Clauses.{clauseAt, clausesOf}
-use Rattle.condition.specs.Read.{placesIn, readOf, clausesIn}
-use Rattle.condition.specs.Known.{ClauseKnown}
-use Rattle.condition.proofs.Accepted.{condition-known, condition-linear}
+use Rattle.condition.proofs.Accepted.{known-linear}
 use Rattle.cut.specs.declared.Behind.{Behind}
 use Rattle.cut.specs.declared.Behind.the-variants.{Nobody, Process}
-use Rattle.cut.specs.Lent.{Lent}
 use Rattle.cut.specs.Clocks.{tooLow, InTable}
 use Rattle.cut.proofs.Low.{too-low-found, nobody-by-clock, cut-in-table}
 use Rattle.search.specs.declared.Answer.the-variants as A
-use Rattle.search.specs.Search.{Given, clausesFor, Tested, isLocal, Tried, KindTested, Lowest, MustMove, Moved, Searched}
+use Rattle.search.specs.Search.{Given, Tested, isLocal, Tried, KindTested, Lowest, MustMove, Moved, Searched}
 use Rattle.search.specs.Search.Tried.{tested, passed}
 use Rattle.search.specs.Search.KindTested.{all, one}
 use Rattle.search.specs.Search.Moved.{nobody, process}
@@ -87,44 +84,34 @@ tried-tested : {r : Run} {cut : List ℕ} {x : Clause} {locals : Bool} {b : Behi
 tried-tested e (tested d t) = t
 tried-tested e (passed d o) = absurd (let z : _≡_ {A = ℕ} 0 1 = cc in omega arith)
 
-module _ {s c cs ps ns ks qs : List ℕ} {k : ℕ} (g : Given s c cs ps ns ks qs k) where
+module _ {s c ix qs : List ℕ} (g : Given s c ix qs) where
   abbrev r : Run
   r = runIn s
 
-  pub lent : Lent s ps ns
-  lent = record { counts = cs; clocks = ks; tables = g .tables }
+  -- the clauses at the places
+  abbrev cs : List Clause
+  cs = clausesOf c qs
 
-  pub listed : Listed s cs ps
-  listed = record { read = g .tables .read; index = g .tables .index; long = g .tables .places-long }
+  linear : Linear cs
+  linear = known-linear c (headOf s) qs (g .known .clauses)
 
-  linear : Linear (clausesFor s c)
-  unfolding clausesIn
-  linear = condition-linear c (headOf s) (placesIn (readOf c (headOf s))) (g .read)
-
-  pub clause-known : (j : ℕ) → j < k → ClauseKnown c (headOf s) (getD qs j 0)
-  clause-known j h = rw (g .placed j h) (condition-known c (headOf s) (placesIn (readOf c (headOf s))) (g .read) .clauses j (omega (arith, g .counted)))
-
-  pub few-clauses : k ≤ 32
-  few-clauses = omega (arith, g .counted, condition-known c (headOf s) (placesIn (readOf c (headOf s))) (g .read) .few)
-
-  clause-in : (j : ℕ) → j < k → List·Memᴰ (clauseAt c (getD qs j 0)) (clausesFor s c)
-  unfolding clausesIn clausesOf
-  clause-in j h = rw (g .placed j h) (map-mem (clauseAt c) (placesIn (readOf c (headOf s))) j 0 (omega (arith, g .counted)))
+  clause-in : (j : ℕ) → j < length qs → List·Memᴰ (clauseAt c (getD qs j 0)) cs
+  unfolding clausesOf
+  clause-in j h = map-mem (clauseAt c) qs j 0 h
 
   -- ---- the clauses of one kind
 
-  pub all-of-kind : (cut : List ℕ) (locals : Bool) → ((j : ℕ) → j < k → isLocal (clauseAt c (getD qs j 0)) ≡ locals → T (holds r cut (clauseAt c (getD qs j 0))))
-      → KindTested s c cut locals Nobody
-  unfolding clausesIn clausesOf
-  all-of-kind cut locals w = all (map-each (clauseAt c) (λ x. isLocal x ≡ locals → T (holds r cut x)) (placesIn (readOf c (headOf s))) 0
-      (λ j h. let l : j < k = omega (arith, g .counted) in subst (λ q. isLocal (clauseAt c q) ≡ locals → T (holds r cut (clauseAt c q))) (g .placed j l) (w j l)))
+  pub all-of-kind : (cut : List ℕ) (locals : Bool) → ((j : ℕ) → j < length qs → isLocal (clauseAt c (getD qs j 0)) ≡ locals → T (holds r cut (clauseAt c (getD qs j 0))))
+      → KindTested r cs cut locals Nobody
+  unfolding clausesOf
+  all-of-kind cut locals w = all (map-each (clauseAt c) (λ x. isLocal x ≡ locals → T (holds r cut x)) qs 0 w)
 
-  pub one-of-kind : (cut : List ℕ) {locals : Bool} (j : ℕ) → j < k → {b : Behind} {p : ℕ} → b ≡ Process p → Tried r cut (clauseAt c (getD qs j 0)) locals b → KindTested s c cut locals b
+  pub one-of-kind : (cut : List ℕ) {locals : Bool} (j : ℕ) → j < length qs → {b : Behind} {p : ℕ} → b ≡ Process p → Tried r cut (clauseAt c (getD qs j 0)) locals b → KindTested r cs cut locals b
   one-of-kind cut {locals} j h {p = p} e t =
-      subst (KindTested s c cut locals) (sym e) (one (clauseAt c (getD qs j 0)) (clause-in j h) p (subst (Tested r cut (clauseAt c (getD qs j 0))) e (tried-tested e t)))
+      subst (KindTested r cs cut locals) (sym e) (one (clauseAt c (getD qs j 0)) (clause-in j h) p (subst (Tested r cut (clauseAt c (getD qs j 0))) e (tried-tested e t)))
 
-  pub both-kinds : (cut : List ℕ) {a b : Behind} → a ≡ Nobody → KindTested s c cut true a → b ≡ Nobody → KindTested s c cut false b
-      → (x : Clause) → List·Memᴰ x (clausesFor s c) → T (holds r cut x)
+  pub both-kinds : (cut : List ℕ) {a b : Behind} → a ≡ Nobody → KindTested r cs cut true a → b ≡ Nobody → KindTested r cs cut false b
+      → (x : Clause) → List·Memᴰ x (cs) → T (holds r cut x)
   both-kinds cut d (all v) e (all w) x m = go (isLocal x) refl
     where
       go : (t : Bool) → isLocal x ≡ t → T (holds r cut x)
@@ -134,27 +121,27 @@ module _ {s c cs ps ns ks qs : List ℕ} {k : ℕ} (g : Given s c cs ps ns ks qs
   both-kinds cut d (one y n p t) e w x m = absurd (let z : _≡_ {A = ℕ} 0 1 = cc in omega arith)
 
   -- where one is false the cut doesn't satisfy
-  pub kind-fails : (cut : List ℕ) {locals : Bool} {b : Behind} {p : ℕ} → b ≡ Process p → KindTested s c cut locals b → ¬ Satisfies r (clausesFor s c) cut
+  pub kind-fails : (cut : List ℕ) {locals : Bool} {b : Behind} {p : ℕ} → b ≡ Process p → KindTested r cs cut locals b → ¬ Satisfies r (cs) cut
   kind-fails cut e (all w) y = let z : _≡_ {A = ℕ} 0 1 = cc in omega arith
   kind-fails cut e (one x m p t) y = tested-fails refl t (y .clauses x m)
 
-  module _ (cut : List ℕ) (is : IsCut r cut) (low : Lowest r (clausesFor s c) cut) where
+  module _ (cut : List ℕ) (is : IsCut r cut) (low : Lowest r (cs) cut) where
     -- a false clause
-    pub moved-clause : {locals : Bool} {b : Behind} {p : ℕ} → b ≡ Process p → KindTested s c cut locals b → Moved s c ks cut b
+    pub moved-clause : {locals : Bool} {b : Behind} {p : ℕ} → b ≡ Process p → KindTested r cs cut locals b → Moved r cs ix cut b
     moved-clause e (all w) = absurd (let z : _≡_ {A = ℕ} 0 1 = cc in omega arith)
-    moved-clause e (one x m p t) = let (a, w) = tested-moves r (clausesFor s c) cut x linear low m (Process p) p refl t in process p a w
+    moved-clause e (one x m p t) = let (a, w) = tested-moves r (cs) cut x linear low m (Process p) p refl t in process p a w
 
     -- a clock
-    pub moved-low : {b : Behind} {p : ℕ} → b ≡ Process p → b ≡ tooLow (clockIn ks) cut → Moved s c ks cut b
+    pub moved-low : {b : Behind} {p : ℕ} → b ≡ Process p → b ≡ tooLow (clockIn ix) cut → Moved r cs ix cut b
     unfolding Under Moves
     moved-low {p = p} d e =
-        let (j, l) = too-low-found (clockIn ks) cut p (sym e ∙ d) in
-        subst (Moved s c ks cut) (sym d) (process p (omega (arith, l .process, is .size))
-        (clock-moves r (clausesFor s c) linear cut low (clockIn ks) (g .tables .clocks) is p j (omega (arith, l .process, is .size)) (omega (arith, l .other, is .size)) (l .apart) (l .low)))
+        let (j, l) = too-low-found (clockIn ix) cut p (sym e ∙ d) in
+        subst (Moved r cs ix cut) (sym d) (process p (omega (arith, l .process, is .size))
+        (clock-moves r (cs) linear cut low (clockIn ix) (g .tables .clocks) is p j (omega (arith, l .process, is .size)) (omega (arith, l .other, is .size)) (l .apart) (l .low)))
 
     -- local clauses and clocks name nobody: the channel clauses decide
-    pub moved-last : {a b : Behind} → a ≡ Nobody → KindTested s c cut true a → Nobody ≡ tooLow (clockIn ks) cut → KindTested s c cut false b → Moved s c ks cut b
-    moved-last d v e (all w) = nobody (both-kinds cut d v refl (all w)) (nobody-by-clock (clockIn ks) cut r (g .tables .clocks) is (sym e))
+    pub moved-last : {a b : Behind} → a ≡ Nobody → KindTested r cs cut true a → Nobody ≡ tooLow (clockIn ix) cut → KindTested r cs cut false b → Moved r cs ix cut b
+    moved-last d v e (all w) = nobody (both-kinds cut d v refl (all w)) (nobody-by-clock (clockIn ix) cut r (g .tables .clocks) is (sym e))
     moved-last d v e (one x m p t) = moved-clause {locals = false} refl (one x m p t)
 
     pub in-table : InTable cut
@@ -162,46 +149,45 @@ module _ {s c cs ps ns ks qs : List ℕ} {k : ℕ} (g : Given s c cs ps ns ks qs
 
   -- ---- the elimination
 
-  pub search-start : (cut : List ℕ) → cut ≡ replicate (processes r) 1 → IsCut r cut × Lowest r (clausesFor s c) cut
+  pub search-start : (cut : List ℕ) → cut ≡ replicate (processes r) 1 → IsCut r cut × Lowest r (cs) cut
   unfolding Under
-  search-start cut e = subst (λ x. IsCut r x × Lowest r (clausesFor s c) x) (sym e) (ones-cut r (g .tables .known), ones-under r (g .tables .known) (clausesFor s c))
+  search-start cut e = subst (λ x. IsCut r x × Lowest r (cs) x) (sym e) (ones-cut r (g .tables .known), ones-under r (g .tables .known) (cs))
 
-  module _ (cut : List ℕ) (is : IsCut r cut) (low : Lowest r (clausesFor s c) cut) where
-    pub search-found : {b : Behind} → b ≡ Nobody → Moved s c ks cut b → Searched s c cut A.Found
+  module _ (cut : List ℕ) (is : IsCut r cut) (low : Lowest r (cs) cut) where
+    pub search-found : {b : Behind} → b ≡ Nobody → Moved r cs ix cut b → Searched r cs cut A.Found
     unfolding Under
-    search-found e (nobody w v) = found (arrive r (clausesFor s c) cut low (all-tested r (clockIn ks) (clausesFor s c) cut (g .tables .clocks) is v w))
+    search-found e (nobody w v) = found (arrive r (cs) cut low (all-tested r (clockIn ix) (cs) cut (g .tables .clocks) is v w))
     search-found e (process p h m) = absurd (let z : _≡_ {A = ℕ} 0 1 = cc in omega arith)
 
-    -- who is named, and where the tables and the cut have it
+    -- who is named, and where the index and the cut have it
     pub record Named (p : ℕ) : Type 0 where
       pub there : p < processes r
-      pub must : MustMove r (clausesFor s c) cut p
+      pub must : MustMove r (cs) cut p
       pub row : p < 8
       pub inside : p < length cut
       pub small : at cut p ≤ 512
-      pub listed-in : p < length cs
-      pub counted : getD cs p 0 ≡ count r p
+      pub counted : getD ix p 0 ≡ count r p
 
-    named : {p : ℕ} → p < processes r → MustMove r (clausesFor s c) cut p → Named p
+    named : {p : ℕ} → p < processes r → MustMove r (cs) cut p → Named p
     named {p} h m =
-        let read = g .tables .read in
+        let read = g .tables .listed .read in
         let l : p < headOf s .processes = omega (arith, processes-are s read) in
         let few = ok s read .head .few in
         let inside : p < length cut = omega (arith, is .size) in
-        record { there = h; must = m; row = omega arith; inside = inside; small = in-table cut is low .there p inside; listed-in = omega (arith, listed-eight listed); counted = listed-count s cs ps listed p l }
+        record { there = h; must = m; row = omega arith; inside = inside; small = in-table cut is low .there p inside; counted = listed-count s ix (g .tables .listed) p l }
 
-    pub moved-process : {b : Behind} {p : ℕ} → b ≡ Process p → Moved s c ks cut b → Named p
+    pub moved-process : {b : Behind} {p : ℕ} → b ≡ Process p → Moved r cs ix cut b → Named p
     moved-process e (nobody w v) = absurd (let z : _≡_ {A = ℕ} 0 1 = cc in omega arith)
     moved-process {p = p} e (process q h m) = let same : q ≡ p = cc in subst Named same (named h m)
 
-    module _ (p : ℕ) (h : p < processes r) (m : MustMove r (clausesFor s c) cut p) where
+    module _ (p : ℕ) (h : p < processes r) (m : MustMove r (cs) cut p) where
       -- a history that runs out
-      pub search-nowhere : count r p ≤ at cut p → Searched s c cut A.Nowhere
+      pub search-nowhere : count r p ≤ at cut p → Searched r cs cut A.Nowhere
       unfolding Moves
-      search-nowhere l = nowhere (run-out r (clausesFor s c) cut p h l m)
+      search-nowhere l = nowhere (run-out r (cs) cut p h l m)
 
       -- a move
-      pub search-move : at cut p < count r p → IsCut r (set cut p (at cut p + 1)) × Lowest r (clausesFor s c) (set cut p (at cut p + 1))
+      pub search-move : at cut p < count r p → IsCut r (set cut p (at cut p + 1)) × Lowest r (cs) (set cut p (at cut p + 1))
       unfolding Under Moves
       search-move l = rw add-one (
         record {
@@ -212,7 +198,7 @@ module _ {s c cs ps ns ks qs : List ℕ} {k : ℕ} (g : Given s c cs ps ns ks qs
             | no n ↦ subst (IsState r i) (sym (getD-set-other cut p i (suc (at cut p)) 0 n)) (is .states i g)
           ];
         },
-        move-on r (clausesFor s c) cut p (omega (arith, is .size)) low m,
+        move-on r (cs) cut p (omega (arith, is .size)) low m,
       )
 
       -- a bound on the moves

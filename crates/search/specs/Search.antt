@@ -5,37 +5,27 @@ use mathlib.Core.List.{List, List·Memᴰ}
 use Prim.Native.Nat.{ℕ, _≤_, _<_}
 use lib.Dec.{T}
 use lib.IntN.{ℤ}
-use lib.ListN.{length, getD}
+use lib.ListN.{length}
 use Rattle.model.specs.declared.Mover.the-variants.{Sender, Receiver}
 use Rattle.model.specs.Run.{Run, processes, channel}
 use Rattle.model.specs.Cut.{at, ByClock, inTransit}
 use Rattle.model.specs.Clause.{Comparison, Test, mover, Clause, holds, Satisfies, First}
 use Rattle.model.specs.Clause.Clause.{local, on}
 use Rattle.record.specs.Record.{headOf}
-use Rattle.run.specs.Said.{runIn}
 use Rattle.run.specs.Tables.{clockIn, Tables}
-use Rattle.condition.specs.Read.{placesIn, readOf, clausesIn}
-use Rattle.condition.specs.Read.Verdict.{accepted}
+use Rattle.condition.specs.Known.{Known}
+use Rattle.condition.specs.Read.{clausesIn}
 use Rattle.cut.specs.declared.Behind.{Behind}
 use Rattle.cut.specs.declared.Behind.the-variants.{Nobody, Process}
 use Rattle.search.specs.declared.Answer.{Answer}
 use Rattle.search.specs.declared.Answer.the-variants as A
 
--- an accepted run with its tables, and an accepted condition with the places of its k clauses
-pub record Given (s c cs ps ns ks qs : List ℕ) (k : ℕ) : Type 0 where
-  pub tables : Tables s cs ps ns ks
-  pub read : readOf c (headOf s) ≡ accepted (placesIn (readOf c (headOf s)))
-  pub counted : k ≡ length (placesIn (readOf c (headOf s)))
-  pub placed : (i : ℕ) → i < k → getD qs i 0 ≡ getD (placesIn (readOf c (headOf s))) i 0
-  pub long : length qs ≡ 32
+-- an accepted run with its index, and the places of clauses that are known beside its head
+pub record Given (s c ix qs : List ℕ) : Type 0 where
+  pub tables : Tables s ix
+  pub known : Known c (headOf s) qs
 
--- the same for who needs neither counts nor clocks
-pub record Handed (s c ps ns qs : List ℕ) (k : ℕ) : Type 0 where
-  pub counts : List ℕ
-  pub clocks : List ℕ
-  pub given : Given s c counts ps ns clocks qs k
-
--- the condition's clauses
+-- the clauses of a whole condition
 abbrev pub clausesFor : List ℕ → List ℕ → List Clause
 clausesFor s c = clausesIn c (headOf s)
 
@@ -57,9 +47,9 @@ pub data Tried (r : Run) (cut : List ℕ) (k : Clause) (locals : Bool) (b : Behi
   passed : isLocal k ≡ not locals → b ≡ Nobody → Tried r cut k locals b
 
 -- all clauses of the kind hold, or one is false and names who has to move
-pub data KindTested (s c cut : List ℕ) (locals : Bool) : Behind → Type 0 where
-  all : ((k : Clause) → List·Memᴰ k (clausesFor s c) → isLocal k ≡ locals → T (holds (runIn s) cut k)) → KindTested s c cut locals Nobody
-  one : (k : Clause) → List·Memᴰ k (clausesFor s c) → (p : ℕ) → Tested (runIn s) cut k (Process p) → KindTested s c cut locals (Process p)
+pub data KindTested (r : Run) (cond : List Clause) (cut : List ℕ) (locals : Bool) : Behind → Type 0 where
+  all : ((k : Clause) → List·Memᴰ k cond → isLocal k ≡ locals → T (holds r cut k)) → KindTested r cond cut locals Nobody
+  one : (k : Clause) → List·Memᴰ k cond → (p : ℕ) → Tested r cut k (Process p) → KindTested r cond cut locals (Process p)
 
 -- at or below every satisfying cut
 abbrev pub Lowest : Run → List Clause → List ℕ → Type 0
@@ -70,11 +60,11 @@ abbrev pub MustMove : Run → List Clause → List ℕ → ℕ → Type 0
 MustMove r cond cut p = (d : List ℕ) → Satisfies r cond d → at cut p < at d p
 
 -- nobody has to move where the cut satisfies
-pub data Moved (s c ks cut : List ℕ) : Behind → Type 0 where
-  nobody : ((k : Clause) → List·Memᴰ k (clausesFor s c) → T (holds (runIn s) cut k)) → ByClock (runIn s) (clockIn ks) cut → Moved s c ks cut Nobody
-  process : (p : ℕ) → p < processes (runIn s) → MustMove (runIn s) (clausesFor s c) cut p → Moved s c ks cut (Process p)
+pub data Moved (r : Run) (cond : List Clause) (ix cut : List ℕ) : Behind → Type 0 where
+  nobody : ((k : Clause) → List·Memᴰ k cond → T (holds r cut k)) → ByClock r (clockIn ix) cut → Moved r cond ix cut Nobody
+  process : (p : ℕ) → p < processes r → MustMove r cond cut p → Moved r cond ix cut (Process p)
 
 -- found with the first cut, or none satisfies
-pub data Searched (s c cut : List ℕ) : Answer → Type 0 where
-  found : First (runIn s) (clausesFor s c) cut → Searched s c cut A.Found
-  nowhere : ((d : List ℕ) → ¬ Satisfies (runIn s) (clausesFor s c) d) → Searched s c cut A.Nowhere
+pub data Searched (r : Run) (cond : List Clause) (cut : List ℕ) : Answer → Type 0 where
+  found : First r cond cut → Searched r cond cut A.Found
+  nowhere : ((d : List ℕ) → ¬ Satisfies r cond d) → Searched r cond cut A.Nowhere

@@ -15,21 +15,21 @@ ghost use Prim.Native.Nat.{_<_};
 ghost use Rattle.model.specs.Cut.{IsCut};
 ghost use Rattle.record.specs.Record.{headOf};
 ghost use Rattle.run.specs.Said.{runIn};
-ghost use Rattle.condition.specs.Clauses.{clauseOf, clauseAt};
+ghost use Rattle.run.specs.Tables.{Tables};
+ghost use Rattle.condition.specs.Clauses.{clauseOf, clauseAt, clausesOf};
 ghost use Rattle.condition.specs.Known.{LocalKnown, TestKnown, ClauseKnown};
-ghost use Rattle.cut.specs.Lent.{Lent, Placed};
-ghost use Rattle.search.specs.Search.{Given, Handed, Tested, Tried, KindTested, Lowest, Moved, clausesFor};
+ghost use Rattle.search.specs.Search.{Given, Tested, Tried, KindTested, Lowest, Moved};
 
 // A local clause names its process.
-fn local_mover(run: &[u8], places: &[u16], cut: &[u16], clause: Local) -> Behind
-    requires { ⌜ Placed (now run) (now places) × IsCut (runIn (now run)) (now cut) × LocalKnown (headOf (now run)) clause ⌝ }
+fn local_mover(run: &[u8], index: &[u16], cut: &[u16], clause: Local) -> Behind
+    requires { ⌜ Tables (now run) (now index) × IsCut (runIn (now run)) (now cut) × LocalKnown (headOf (now run)) clause ⌝ }
     ensures { λ r. ⌜ Tested (runIn (now (run .entry))) (now (cut .entry)) (clauseOf (Clause.Local clause)) r ⌝ }
 {
     let p = clause.process as usize;
     let k = cut[p];
     if local_holds(
         run,
-        places,
+        index,
         clause.process,
         clause.value,
         k,
@@ -42,8 +42,8 @@ fn local_mover(run: &[u8], places: &[u16], cut: &[u16], clause: Local) -> Behind
 }
 
 // A channel clause names its sender or its receiver.
-fn channel_mover(run: &[u8], places: &[u16], partners: &[u16], cut: &[u16], clause: Test) -> Behind
-    requires { ⌜ Lent (now run) (now places) (now partners) × IsCut (runIn (now run)) (now cut) × TestKnown (headOf (now run)) clause ⌝ }
+fn channel_mover(run: &[u8], index: &[u16], cut: &[u16], clause: Test) -> Behind
+    requires { ⌜ Tables (now run) (now index) × IsCut (runIn (now run)) (now cut) × TestKnown (headOf (now run)) clause ⌝ }
     ensures { λ r. ⌜ Tested (runIn (now (run .entry))) (now (cut .entry)) (clauseOf (Clause.Channel clause)) r ⌝ }
 {
     let ends = channel_at(run, clause.channel);
@@ -51,8 +51,7 @@ fn channel_mover(run: &[u8], places: &[u16], partners: &[u16], cut: &[u16], clau
     let to = ends.to as usize;
     let tally = tally_for(
         run,
-        places,
-        partners,
+        index,
         clause.channel,
         ends.from,
         cut[from],
@@ -74,27 +73,26 @@ fn channel_mover(run: &[u8], places: &[u16], partners: &[u16], cut: &[u16], clau
 // The clause whose record stands at a place, if it is of the kind that is asked for: local, or else a channel clause.
 fn clause_mover(
     run: &[u8],
-    places: &[u16],
-    partners: &[u16],
+    index: &[u16],
     cond: &[u8],
     at: usize,
     cut: &[u16],
     locals: bool,
 ) -> Behind
-    requires { ⌜ Lent (now run) (now places) (now partners) × IsCut (runIn (now run)) (now cut) × ClauseKnown (now cond) (headOf (now run)) at ⌝ }
+    requires { ⌜ Tables (now run) (now index) × IsCut (runIn (now run)) (now cut) × ClauseKnown (now cond) (headOf (now run)) at ⌝ }
     ensures { λ r. ⌜ Tried (runIn (now (run .entry))) (now (cut .entry)) (clauseAt (now (cond .entry)) at) locals r ⌝ }
 {
     let clause = clause_at(cond, at);
     match clause {
         Clause::Local(local) => if locals {
-            local_mover(run, places, cut, local)
+            local_mover(run, index, cut, local)
         } else {
             Behind::Nobody
         },
         Clause::Channel(test) => if locals {
             Behind::Nobody
         } else {
-            channel_mover(run, places, partners, cut, test)
+            channel_mover(run, index, cut, test)
         },
     }
 }
@@ -102,28 +100,18 @@ fn clause_mover(
 // The first clause of the kind that is false names who has to move.
 pub fn first_false(
     run: &[u8],
-    places: &[u16],
-    partners: &[u16],
+    index: &[u16],
     cond: &[u8],
     clauses: &[u16],
-    k: u16,
     cut: &[u16],
     locals: bool,
 ) -> Behind
-    requires { ⌜ Handed (now run) (now cond) (now places) (now partners) (now clauses) k × IsCut (runIn (now run)) (now cut) ⌝ }
-    ensures { λ r. ⌜ KindTested (now (run .entry)) (now (cond .entry)) (now (cut .entry)) locals r ⌝ }
+    requires { ⌜ Given (now run) (now cond) (now index) (now clauses) × IsCut (runIn (now run)) (now cut) ⌝ }
+    ensures { λ r. ⌜ KindTested (runIn (now (run .entry))) (clausesOf (now (cond .entry)) (now (clauses .entry))) (now (cut .entry)) locals r ⌝ }
 {
     let mut i: usize = 0;
-    while i < k as usize {
-        let named = clause_mover(
-            run,
-            places,
-            partners,
-            cond,
-            clauses[i] as usize,
-            cut,
-            locals,
-        );
+    while i < clauses.len() {
+        let named = clause_mover(run, index, cond, clauses[i] as usize, cut, locals);
         let Behind::Nobody = named else {
             return named;
         };
@@ -133,27 +121,17 @@ pub fn first_false(
 }
 
 // Who has to move is named by a local clause, else by the clocks, else by a channel clause: a channel's messages are counted anew each time, so that is asked last.
-pub fn first_mover(
-    run: &[u8],
-    counts: &[u16],
-    places: &[u16],
-    partners: &[u16],
-    clocks: &[u16],
-    cond: &[u8],
-    clauses: &[u16],
-    k: u16,
-    cut: &[u16],
-) -> Behind
-    requires { ⌜ Given (now run) (now cond) (now counts) (now places) (now partners) (now clocks) (now clauses) k × IsCut (runIn (now run)) (now cut) × Lowest (runIn (now run)) (clausesFor (now run) (now cond)) (now cut) ⌝ }
-    ensures { λ r. ⌜ Moved (now (run .entry)) (now (cond .entry)) (now (clocks .entry)) (now (cut .entry)) r ⌝ }
+pub fn first_mover(run: &[u8], index: &[u16], cond: &[u8], clauses: &[u16], cut: &[u16]) -> Behind
+    requires { ⌜ Given (now run) (now cond) (now index) (now clauses) × IsCut (runIn (now run)) (now cut) × Lowest (runIn (now run)) (clausesOf (now cond) (now clauses)) (now cut) ⌝ }
+    ensures { λ r. ⌜ Moved (runIn (now (run .entry))) (clausesOf (now (cond .entry)) (now (clauses .entry))) (now (index .entry)) (now (cut .entry)) r ⌝ }
 {
-    let local = first_false(run, places, partners, cond, clauses, k, cut, true);
+    let local = first_false(run, index, cond, clauses, cut, true);
     let Behind::Nobody = local else {
         return local;
     };
-    let low = too_low(clocks, cut);
+    let low = too_low(index, cut);
     let Behind::Nobody = low else {
         return low;
     };
-    first_false(run, places, partners, cond, clauses, k, cut, false)
+    first_false(run, index, cond, clauses, cut, false)
 }

@@ -7,17 +7,16 @@ use Rattle.checker.proofs.finding.first_cut.Tie as tie
 
 with-condition-requires : tie.Need-with-condition-requires
 with-condition-requires c κs =
-    let j = c .before .before .before .before .before .before .before .before .before .before .before .before .judge-run .ensures in
-    let e = c .before .before .before .before .before .before .reading2 .given .1 in
+    let j = c .before .before .before .before .before .before .judge-run .ensures in
+    let e = c .before .before .before .reading2 .given .1 in
     let a = judged-accepted _ _ (j .0) e in
     (a .1, ready-tables _ _ (j .1) e, a .0)
 
 returns : tie.Need-returns
-returns c = runRefused _ (judged-refused _ _ (c .before .before .before .before .before .before .before .judge-run .ensures .0) (c .before .reading .given .1)) refl
+returns c = runRefused _ (judged-refused _ _ (c .before .before .before .before .judge-run .ensures .0) (c .before .reading .given .1)) refl
 
 pub first-cut-spec : {M : Type 1} → statement M
 first-cut-spec =
     tie.close (tie.spec
-    (λ c. search needs) (λ c. search needs) (λ c. search needs) (λ c. search needs) (λ c κs. search needs)
-    (λ c. search needs) (λ c. search needs) (λ c. search needs) (λ c. search needs) (λ c. search needs)
-    (λ c. search needs) with-condition-requires returns (λ c. search needs) (λ c. search needs))
+    (λ c. search needs) (λ c κs. search needs) (λ c. search needs) (λ c. search needs) (λ c. search needs)
+    with-condition-requires returns (λ c. search needs) (λ c. search needs))

@@ -1,44 +1,60 @@
+-- `search_in` meets its contract: at each way out, what the search and the test of 18 gave.
 use borrow.Author.Needs.{needs}
 use native.Mathlib.Omega.{arith}
 use mathlib.Core.Path.{refl}
+use Rattle.model.specs.Clause.{First}
+use Rattle.run.specs.Said.{runIn}
 use Rattle.run.proofs.Listed.{processes-are}
+use Rattle.search.specs.Search.{clausesFor}
 use Rattle.checker.specs.Answered.Answered.{nowhere, tooEarly, found}
-use Rattle.checker.proofs.Parts.{searched-found, searched-nowhere}
+use Rattle.checker.proofs.Parts.{given, searched-found, searched-nowhere}
 use Rattle.checker.proofs.finding.search_in.Statement.{statement}
 use Rattle.checker.proofs.finding.search_in.Tie as tie
 
+-- the entry seen from behind the search, and that seen from where a cut is found
+abbrev entry : tie.After-search → tie.Start
+entry s = s .before .before .before .before .before .before .before .before
+
+abbrev sought : tie.After-enum-told → tie.After-search
+sought t = t .before .before .before .before
+
+first : (t : tie.After-enum-told) → First (runIn (entry (sought t) .args .run .now)) (clausesFor (entry (sought t) .args .run .now) (entry (sought t) .args .cond .now)) (sought t .search .last .1 .1 .1 .1 .0)
+first t = searched-found (entry (sought t) .pre .0) (sought t .search .ensures) (t .enum-told .given .1)
+
+search-requires : tie.Need-search-requires
+search-requires c κs = let r = c .before .before .before .before .before .before .before .pre in (given (r .0), r .1)
+
 returns : tie.Need-returns
 returns c =
-    let r = c .before .before .before .before .before .before .before .before .before .before .before .before .before .before .before .pre in
-    nowhere (r .0) (r .3) (searched-nowhere (c .before .before .before .before .search .ensures) (c .enum-told2 .given .1)) refl
+    let s = c .before .before .before .before in
+    let r = entry s .pre in
+    nowhere (r .0 .both) (r .2) (searched-nowhere (r .0) (s .search .ensures) (c .enum-told2 .given .1)) refl
 
 has-early-requires : tie.Need-has-early-requires
-has-early-requires c κs =
-    let r = c .before .before .before .before .before .before .before .before .before .before .before .before .before .before .before .before .pre in
-    let w = searched-found (c .before .before .before .before .before .search .ensures) (c .before .enum-told .given .1) in
-    (record { counts = _; clocks = _; tables = r .1 .tables }, w .satisfies .isCut)
+has-early-requires c κs = let t = c .before in (entry (sought t) .pre .0 .tables, first t .satisfies .isCut)
 
 returns-2 : tie.Need-returns-2
 returns-2 c =
-    let r = c .before .before .before .before .before .before .before .before .before .before .before .before .before .before .before .before .before .before .before .pre in
-    let w = searched-found (c .before .before .before .before .before .before .before .before .search .ensures) (c .before .before .before .before .enum-told .given .1) in
-    rw (c .refusal-of .ensures) (tooEarly (r .0) (r .3) _ w (c .before .before .has-early .ensures .early (c .before .if1 .taken)) refl)
+    let t = c .before .before .before .before in
+    let r = entry (sought t) .pre in
+    rw (c .refusal-of .ensures) (tooEarly (r .0 .both) (r .2) _ (first t) (c .before .before .has-early .ensures .early (c .before .if1 .taken)) refl)
 
 write-requires : tie.Need-write-requires
 write-requires c κs =
-    let r = c .before .before .before .before .before .before .before .before .before .before .before .before .before .before .before .before .before .before .before .before .pre in
-    let w = searched-found (c .before .before .before .before .before .before .before .before .before .search .ensures) (c .before .before .before .before .before .enum-told .given .1) in
-    omega (arith, w .satisfies .isCut .size, processes-are _ (r .1 .tables .read), r .3)
+    let t = c .before .before .before .before .before in
+    let r = entry (sought t) .pre in
+    omega (arith, first t .satisfies .isCut .size, processes-are _ (r .0 .tables .listed .read), r .2)
 
 returns-3 : tie.Need-returns-3
 returns-3 c =
-    let r = c .before .before .before .before .before .before .before .before .before .before .before .before .before .before .before .before .before .before .before .before .before .before .before .pre in
-    let w = searched-found (c .before .before .before .before .before .before .before .before .before .before .before .before .search .ensures) (c .before .before .before .before .before .before .before .before .enum-told .given .1) in
-    found (r .0) (r .3) _ w (c .before .before .before .before .before .before .has-early .ensures .none (c .before .before .before .before .before .if1 .left)) (c .before .before .write .ensures)
+    let e = c .before .before .before .before .before in
+    let t = e .before .before .before in
+    let r = entry (sought t) .pre in
+    found (r .0 .both) (r .2) _ (first t) (e .before .has-early .ensures .none (e .if1 .left)) (c .before .before .write .ensures)
 
 pub search-in-spec : {M : Type 1} → statement M
 search-in-spec =
     tie.close (tie.spec
-    (λ c κs. search needs) (λ c. search needs) (λ c. search needs) (λ c. search needs) returns has-early-requires
+    search-requires (λ c. search needs) (λ c. search needs) (λ c. search needs) returns has-early-requires
     (λ c κs. search needs) (λ c. search needs) returns-2 write-requires (λ c. search needs) (λ c. search needs)
     returns-3)

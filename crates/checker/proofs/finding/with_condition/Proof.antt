@@ -1,24 +1,43 @@
 use borrow.Author.Needs.{needs}
-use mathlib.Core.Path.{refl, ap}
+use mathlib.Core.Path.{refl, sym, ap}
+use Prim.Native.Nat.{_≤_}
+use lib.ListN.{length}
+use lib.Seq.{length-take-le}
 use Rattle.checker.specs.Answered.Answered.{condRefused}
-use Rattle.checker.proofs.Parts.{condition-refused, condition-given}
+use Rattle.checker.proofs.Parts.{condition-refused, clauses-few, condition-prepared}
 use Rattle.checker.proofs.finding.with_condition.Statement.{statement}
 use Rattle.checker.proofs.finding.with_condition.Tie as tie
 
+-- the entry, seen from behind the reading of the condition
+abbrev entry : tie.After-read-condition → tie.Start
+entry p = p .before .before .before .before .before .before
+
+-- the row has room for the clauses
+few : (a : tie.After-reading2) → a .reading2 .given .0 .0 ≤ length (a .before .before .before .read-condition .last .1 .1 .0)
+few a =
+    let p = a .before .before .before in
+    clauses-few _ _ _ (entry p .pre .2) (p .read-condition .ensures) _ (a .reading2 .given .1) (p .read-condition .kept .1 .1 .0)
+
+array-share-prefix-clauses : tie.Need-array-share-prefix-clauses
+array-share-prefix-clauses c = few (c .before)
+
+slice-aggregate-search-for : tie.Need-slice-aggregate-search-for
+slice-aggregate-search-for c = sym (length-take-le _ _ (few (c .before .before)))
+
 search-for-requires : tie.Need-search-for-requires
 search-for-requires c κs =
-    let r = c .before .before .before .before .before .before .before .before .before .before .before .before .before .before .before .pre in
-    let p = c .before .before .before .before .before .before .read-condition in
-    let g = condition-given _ _ _ (r .2) (p .ensures) _ (r .1) (c .before .before .before .reading2 .given .1) (p .kept .1 .1 .0) in
-    (record { run = r .0; cond = g .read }, g, ap (λ h. h .processes) (r .2))
+    let p = c .before .before .before .before .before .before in
+    let r = entry p .pre in
+    (condition-prepared _ _ _ (r .2) (p .read-condition .ensures) _ (c .before .before .before .reading2 .given .1) (p .read-condition .kept .1 .1 .0) (r .0) (r .1), ap (λ h. h .processes) (r .2))
 
 returns : tie.Need-returns
 returns c =
-    let r = c .before .before .before .before .before .before .before .before .before .before .before .before .before .pre in
-    condRefused _ (r .0) (condition-refused _ _ _ (r .2) (c .before .before .before .before .read-condition .ensures) _ (c .before .reading .given .1)) refl
+    let p = c .before .before .before .before in
+    let r = entry p .pre in
+    condRefused _ (r .0) (condition-refused _ _ _ (r .2) (p .read-condition .ensures) _ (c .before .reading .given .1)) refl
 
 pub with-condition-spec : {M : Type 1} → statement M
 with-condition-spec =
     tie.close (tie.spec
     (λ c. search needs) (λ c κs. search needs) (λ c. search needs) (λ c. search needs) (λ c. search needs)
-    search-for-requires returns (λ c. search needs) (λ c. search needs))
+    array-share-prefix-clauses slice-aggregate-search-for search-for-requires returns (λ c. search needs) (λ c. search needs))

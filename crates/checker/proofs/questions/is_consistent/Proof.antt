@@ -1,23 +1,21 @@
 use borrow.Author.Needs.{needs}
 use Rattle.checker.specs.Questions.{AskedConsistent}
-use Rattle.checker.proofs.Parts.{judged-refused, judged-accepted, ready-tables, tables-listed}
+use Rattle.checker.proofs.Parts.{judged-refused, judged-accepted, ready-tables}
 use Rattle.checker.proofs.questions.is_consistent.Statement.{statement}
 use Rattle.checker.proofs.questions.is_consistent.Tie as tie
 
 consistent-in-requires : tie.Need-consistent-in-requires
 consistent-in-requires c κs =
-    let j = c .before .before .before .before .before .before .before .before .before .before .judge-run .ensures in
-    let e = c .before .before .before .before .reading2 .given .1 in
-    let w = ready-tables _ _ (j .1) e in
+    let j = c .before .before .before .before .before .judge-run .ensures in
+    let e = c .before .before .reading2 .given .1 in
     let a = judged-accepted _ _ (j .0) e in
-    (tables-listed _ w, w .clocks, w .clocks-long, a .1, a .0)
+    (ready-tables _ _ (j .1) e, a .1, a .0)
 
 returns : tie.Need-returns
-returns c = AskedConsistent.runRefused _ (judged-refused _ _ (c .before .before .before .before .before .before .before .judge-run .ensures .0) (c .before .reading .given .1))
+returns c = AskedConsistent.runRefused _ (judged-refused _ _ (c .before .before .before .before .judge-run .ensures .0) (c .before .reading .given .1))
 
 pub is-consistent-spec : {M : Type 1} → statement M
 is-consistent-spec =
     tie.close (tie.spec
-    (λ c. search needs) (λ c. search needs) (λ c. search needs) (λ c. search needs) (λ c κs. search needs)
-    (λ c. search needs) (λ c. search needs) (λ c. search needs) (λ c. search needs) (λ c. search needs)
+    (λ c. search needs) (λ c κs. search needs) (λ c. search needs) (λ c. search needs) (λ c. search needs)
     consistent-in-requires returns (λ c. search needs))

@@ -1,22 +1,44 @@
 use borrow.Author.Needs.{needs}
+use mathlib.Core.Path.{sym}
+use Prim.Native.Nat.{_≤_}
+use lib.ListN.{length}
+use lib.Seq.{length-take-le}
 use Rattle.checker.specs.Questions.{AskedSatisfies}
-use Rattle.checker.proofs.Parts.{condition-refused, condition-given}
+use Rattle.checker.proofs.Parts.{condition-refused, clauses-few, condition-prepared}
 use Rattle.checker.proofs.questions.satisfies_in.Statement.{statement}
 use Rattle.checker.proofs.questions.satisfies_in.Tie as tie
 
+-- the entry, seen from behind the reading of the condition
+abbrev entry : tie.After-read-condition → tie.Start
+entry p = p .before .before .before .before .before .before
+
+-- the row has room for the clauses
+few : (a : tie.After-reading2) → a .reading2 .given .0 .0 ≤ length (a .before .before .before .read-condition .last .1 .1 .0)
+few a =
+    let p = a .before .before .before in
+    clauses-few _ _ _ (entry p .pre .2) (p .read-condition .ensures) _ (a .reading2 .given .1) (p .read-condition .kept .1 .1 .0)
+
+array-share-prefix-clauses : tie.Need-array-share-prefix-clauses
+array-share-prefix-clauses c = few (c .before)
+
+slice-aggregate-satisfies-at : tie.Need-slice-aggregate-satisfies-at
+slice-aggregate-satisfies-at c = sym (length-take-le _ _ (few (c .before .before)))
+
 satisfies-at-requires : tie.Need-satisfies-at-requires
 satisfies-at-requires c κs =
-    let r = c .before .before .before .before .before .before .before .before .before .before .before .before .before .before .pre in
-    let p = c .before .before .before .before .before .read-condition in
-    (condition-given _ _ _ (r .2) (p .ensures) _ (r .0) (c .before .before .reading2 .given .1) (p .kept .1 .1 .0), r .1, r .2)
+    let a = c .before .before in
+    let p = a .before .before .before in
+    let r = entry p .pre in
+    (condition-prepared _ _ _ (r .2) (p .read-condition .ensures) _ (a .reading2 .given .1) (p .read-condition .kept .1 .1 .0) (r .1) (r .0), r .2)
 
 returns : tie.Need-returns
 returns c =
-    let r = c .before .before .before .before .before .before .before .before .before .before .before .before .before .pre in
-    AskedSatisfies.conditionRefused _ (r .1) (condition-refused _ _ _ (r .2) (c .before .before .before .before .read-condition .ensures) _ (c .before .reading .given .1))
+    let p = c .before .before .before .before in
+    let r = entry p .pre in
+    AskedSatisfies.conditionRefused _ (r .1) (condition-refused _ _ _ (r .2) (p .read-condition .ensures) _ (c .before .reading .given .1))
 
 pub satisfies-in-spec : {M : Type 1} → statement M
 satisfies-in-spec =
     tie.close (tie.spec
     (λ c. search needs) (λ c κs. search needs) (λ c. search needs) (λ c. search needs) (λ c. search needs)
-    satisfies-at-requires returns (λ c. search needs))
+    array-share-prefix-clauses slice-aggregate-satisfies-at satisfies-at-requires returns (λ c. search needs))

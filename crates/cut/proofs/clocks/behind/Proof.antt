@@ -1,3 +1,4 @@
+-- `behind` meets its contract. The invariant of its loop: what is left to look at gives the whole.
 use borrow.Author.Needs.{needs}
 use native.Mathlib.Omega.{arith}
 use mathlib.Core.Path.{_≡_, refl, sym, ap, _∙_}
@@ -18,31 +19,35 @@ passed-over : (t : Bool) (i : ℕ) → t ≡ false → cond t (Process i) Nobody
 passed-over t i e = rw e refl
 
 abbrev Inv-loop : tie.InvT-loop
-Inv-loop clocks cut j row i₀ i = (i ≤ length cut) × (behindOf (clockIn clocks) cut j ≡ firstFrom (ifBehind (clockIn clocks) cut j) (length cut - i) i)
+Inv-loop index cut j p k i₀ i = (i ≤ length cut) × (behindOf (clockIn index) cut j ≡ firstFrom (ifBehind (clockIn index) cut j) (length cut - i) i)
 
 abbrev μ-loop : tie.MeasureT-loop
-μ-loop clocks cut j row i₀ i = length cut - i
+μ-loop index cut j p k i₀ i = length cut - i
 
-slot-of-requires : tie.Need-slot-of-requires Inv-loop μ-loop
-slot-of-requires c κs =
-    let r = c .before .before .before .pre in
-    record { process = omega (arith, r .1 .few, r .2); counted = r .1 .counted _ (r .2); few = r .1 .there _ (r .2) }
+-- the entry, seen from the loop
+abbrev entry : tie.At-loop Inv-loop μ-loop → tie.Start Inv-loop μ-loop
+entry l = l .before .before .before .before
 
 loop-holds : tie.Need-loop-holds Inv-loop μ-loop
 unfolding behindOf
-loop-holds c = let a = c .before .before .before .before .args in (zero-le, ap (λ n. firstFrom (ifBehind (clockIn (a .clocks .now)) (a .cut .now) (a .j)) n 0) (omega arith))
+loop-holds c = let a = c .before .before .before .args in (zero-le, ap (λ n. firstFrom (ifBehind (clockIn (a .index .now)) (a .cut .now) (a .j)) n 0) (omega arith))
+
+clock-at-requires : tie.Need-clock-at-requires Inv-loop μ-loop
+clock-at-requires c κs =
+    let r = entry (c .before .before) .pre in
+    (r .0, record { process = omega (arith, r .1 .few, r .2); counted = r .1 .counted _ (r .2); few = r .1 .there _ (r .2) }, omega (arith, r .1 .few, c .before .loop-test .taken))
 
 returns : tie.Need-returns Inv-loop μ-loop
 unfolding ifBehind
 returns c =
     let l = c .before .before .before .before .loop in
-    sym (l .inv .1 ∙ first-stop _ _ (l .i) _ (omega arith) (chosen _ _ (rw (c .before .before .before .before .before .slot-of .ensures .0) at (c .if1 .taken))))
+    sym (l .inv .1 ∙ first-stop _ _ (l .i) _ (omega arith) (chosen _ _ (rw (c .before .clock-at .ensures) at (c .if1 .taken))))
 
 loop-again : tie.Need-loop-again Inv-loop μ-loop
 unfolding ifBehind
 loop-again c =
     let l = c .before .before .before .before .loop in
-    (omega arith, l .inv .1 ∙ first-turn _ _ (l .i) (omega arith) (passed-over _ _ (rw (c .before .before .before .before .before .slot-of .ensures .0) at (c .if1 .left))))
+    (omega arith, l .inv .1 ∙ first-turn _ _ (l .i) (omega arith) (passed-over _ _ (rw (c .before .clock-at .ensures) at (c .if1 .left))))
 
 returns-2 : tie.Need-returns-2 Inv-loop μ-loop
 returns-2 c = sym (c .before .loop .inv .1 ∙ first-done _ _ _ (omega arith))
@@ -50,6 +55,6 @@ returns-2 c = sym (c .before .loop .inv .1 ∙ first-done _ _ _ (omega arith))
 pub behind-spec : {M : Type 1} → statement M
 behind-spec =
     tie.close (tie.spec
-    Inv-loop μ-loop (λ c. search needs) (λ c. search needs) (λ c. search needs) slot-of-requires (λ c. search needs)
-    loop-holds (λ c. search needs) (λ c. search needs) (λ c. search needs) (λ c. search needs) (λ c. search needs)
+    Inv-loop μ-loop (λ c. search needs) (λ c. search needs) (λ c. search needs) loop-holds
+    (λ c. search needs) (λ c. search needs) (λ c. search needs) clock-at-requires
     returns (λ c. search needs) (λ c. search needs) loop-again returns-2)

@@ -10,14 +10,14 @@ use Rattle.cut.proofs.clocks.too_low.Statement.{statement}
 use Rattle.cut.proofs.clocks.too_low.Tie as tie
 
 abbrev Inv-loop : tie.InvT-loop
-Inv-loop clocks cut j₀ j = (j ≤ length cut) × (tooLow (clockIn clocks) cut ≡ firstFrom (behindOf (clockIn clocks) cut) (length cut - j) j)
+Inv-loop index cut j₀ j = (j ≤ length cut) × (tooLow (clockIn index) cut ≡ firstFrom (behindOf (clockIn index) cut) (length cut - j) j)
 
 abbrev μ-loop : tie.MeasureT-loop
-μ-loop clocks cut j₀ j = length cut - j
+μ-loop index cut j₀ j = length cut - j
 
 loop-holds : tie.Need-loop-holds Inv-loop μ-loop
 unfolding tooLow
-loop-holds c = let u = c .before .before in (zero-le, ap (λ n. firstFrom (behindOf (clockIn (u .args .clocks .now)) (u .args .cut .now)) n 0) (omega arith))
+loop-holds c = let u = c .before .before in (zero-le, ap (λ n. firstFrom (behindOf (clockIn (u .args .index .now)) (u .args .cut .now)) n 0) (omega arith))
 
 behind-requires : tie.Need-behind-requires Inv-loop μ-loop
 behind-requires c κs = let u = c .before .before .before .before in (u .pre .0, u .pre .1, c .loop-test .taken)

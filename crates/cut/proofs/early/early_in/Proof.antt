@@ -9,20 +9,20 @@ use Rattle.cut.proofs.early.early_in.Statement.{statement}
 use Rattle.cut.proofs.early.early_in.Tie as tie
 
 abbrev Inv-loop : tie.InvT-loop
-Inv-loop run places partners cut p row last k₀ k = (1 ≤ k) × ((l : ℕ) → l < k → InTime (runIn run) cut p l)
+Inv-loop run index cut p row last k₀ k = (1 ≤ k) × ((l : ℕ) → l < k → InTime (runIn run) cut p l)
 
 abbrev μ-loop : tie.MeasureT-loop
-μ-loop run places partners cut p row last k₀ k = last + 1 - k
+μ-loop run index cut p row last k₀ k = last + 1 - k
 
 mul-last : tie.Need-mul-last Inv-loop μ-loop
 mul-last c =
-    let r = c .before .before .before .before .pre in
-    let few = processes-few (r .0 .tables) in
+    let r = c .before .before .before .pre in
+    let few = processes-few (r .0) in
     omega (arith, r .2)
 
 shared-slice-read-last : tie.Need-shared-slice-read-last Inv-loop μ-loop
 shared-slice-read-last c =
-    let r = c .before .before .before .before .before .pre in
+    let r = c .before .before .before .before .pre in
     omega (arith, r .1 .size, r .2)
 
 loop-holds : tie.Need-loop-holds Inv-loop μ-loop
@@ -30,8 +30,8 @@ loop-holds c = (omega arith, in-time-start _ _ _)
 
 sent-past-requires : tie.Need-sent-past-requires Inv-loop μ-loop
 sent-past-requires c κs =
-    let r = c .before .before .before .before .before .before .before .pre in
-    let a = c .before .before .before .before .before .before .before .args in
+    let r = c .before .before .before .before .before .before .pre in
+    let a = c .before .before .before .before .before .before .args in
     let l = c .before .loop in
     let chosen = r .1 .states _ (r .2) in
     let t : IsState (runIn (a .run .now)) (a .p) (l .k) = record { counted = l .inv .0; there = omega (arith, chosen .there, c .loop-test .taken) } in
@@ -42,8 +42,8 @@ returns c = early-in-here _ _ _ _ (c .before .before .loop-test .taken) (c .befo
 
 add-k : tie.Need-add-k Inv-loop μ-loop
 add-k c =
-    let r = c .before .before .before .before .before .before .before .before .before .pre in
-    omega (arith, states-few (r .0 .tables) (r .1 .states _ (r .2)), c .before .before .loop-test .taken)
+    let r = c .before .before .before .before .before .before .before .before .pre in
+    omega (arith, states-few (r .0) (r .1 .states _ (r .2)), c .before .before .loop-test .taken)
 
 loop-less : tie.Need-loop-less Inv-loop μ-loop
 loop-less c = omega (arith, c .before .before .loop-test .taken)

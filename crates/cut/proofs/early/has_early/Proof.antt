@@ -8,22 +8,22 @@ use Rattle.cut.proofs.early.has_early.Statement.{statement}
 use Rattle.cut.proofs.early.has_early.Tie as tie
 
 abbrev Inv-loop : tie.InvT-loop
-Inv-loop run places partners cut p₀ p = InTimeBelow (runIn run) cut p
+Inv-loop run index cut p₀ p = InTimeBelow (runIn run) cut p
 
 abbrev μ-loop : tie.MeasureT-loop
-μ-loop run places partners cut p₀ p = length cut - p
+μ-loop run index cut p₀ p = length cut - p
 
 loop-holds : tie.Need-loop-holds Inv-loop μ-loop
 loop-holds c = λ j h. absurd (omega arith)
 
 cast-early-in : tie.Need-cast-early-in Inv-loop μ-loop
 cast-early-in c =
-    let r = c .before .before .before .before .before .before .pre in
-    record { fits = omega (arith, processes-few (r .0 .tables), r .1 .size, c .loop-test .taken) }
+    let r = c .before .before .before .before .before .pre in
+    record { fits = omega (arith, processes-few (r .0), r .1 .size, c .loop-test .taken) }
 
 early-in-requires : tie.Need-early-in-requires Inv-loop μ-loop
 early-in-requires c κs =
-    let r = c .before .before .before .before .before .before .pre in
+    let r = c .before .before .before .before .before .pre in
     (r .0, r .1, omega (arith, r .1 .size, c .loop-test .taken))
 
 returns : tie.Need-returns Inv-loop μ-loop
@@ -31,8 +31,8 @@ returns c = early-here _ _ (c .before .early-in .ensures .early (c .if1 .taken))
 
 add-p : tie.Need-add-p Inv-loop μ-loop
 add-p c =
-    let r = c .before .before .before .before .before .before .before .before .pre in
-    omega (arith, processes-few (r .0 .tables), r .1 .size, c .before .before .loop-test .taken)
+    let r = c .before .before .before .before .before .before .before .pre in
+    omega (arith, processes-few (r .0), r .1 .size, c .before .before .loop-test .taken)
 
 loop-less : tie.Need-loop-less Inv-loop μ-loop
 loop-less c = omega (arith, c .before .before .loop-test .taken)
@@ -42,7 +42,7 @@ loop-again c = below-next _ _ _ (c .before .early-in .ensures .none (c .if1 .lef
 
 returns-2 : tie.Need-returns-2 Inv-loop μ-loop
 returns-2 c =
-    let r = c .before .before .before .before .before .before .pre in
+    let r = c .before .before .before .before .before .pre in
     early-none _ _ (r .1) _ (omega (arith, c .loop-test .left)) (c .before .loop .inv)
 
 pub has-early-spec : {M : Type 1} → statement M

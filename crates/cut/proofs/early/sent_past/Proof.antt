@@ -1,30 +1,45 @@
 use borrow.Author.Needs.{needs}
 use native.Mathlib.Omega.{arith}
-use mathlib.Core.Path.{refl, sym, ap, _∙_}
+use mathlib.Core.Path.{_≡_, refl, sym, ap, _∙_}
+use Prim.Native.Nat.{_<_}
+use lib.ListN.{length}
+use Rattle.model.specs.declared.Event.the-variants.{Receive}
+use Rattle.model.specs.Run.{into, channel}
 use Rattle.model.proofs.Messages.{no-receive}
-use Rattle.run.proofs.Listed.{channel-record, channel-same, placed-slot}
-use Rattle.cut.proofs.Received.{lent-placed, past-no, past-receive}
+use Rattle.run.specs.Said.{runIn}
+use Rattle.run.proofs.Listed.{channel-record, channel-same, listed-slot}
+use Rattle.cut.proofs.Received.{past-no, past-receive}
 use Rattle.cut.proofs.early.sent_past.Statement.{statement}
 use Rattle.cut.proofs.early.sent_past.Tie as tie
 
-channel-at-requires : tie.Need-channel-at-requires
-channel-at-requires c κs =
-    let w = c .before .before .before .before .before .before .before .before .pre .0 .tables in
-    channel-record _ (w .read) _ (w .known .sides .receiver _ _ _ (sym (c .before .before .before .event-at .ensures) ∙ c .before .event .given .1) .0)
+-- the entry, seen from where the event is known to be a receive; and the channel's sender
+abbrev entry : tie.After-event → tie.Start
+entry e = e .before .before .before .before .before .before
 
-slot-of-requires : tie.Need-slot-of-requires
-slot-of-requires c κs =
-    let r = c .before .before .before .before .before .before .before .before .before .before .pre in
-    placed-slot _ _ (lent-placed (r .0)) (r .2)
+received : (e : tie.After-event) → into (runIn (entry e .args .run .now)) (entry e .args .p) (entry e .args .k) ≡ Receive (e .event .given .0 .0)
+received e = sym (e .before .before .event-at .ensures) ∙ e .event .given .1
+
+there : (e : tie.After-event) → e .event .given .0 .0 .channel < length (runIn (entry e .args .run .now) .channels)
+there e = entry e .pre .0 .known .sides .receiver _ _ _ (received e) .0
+
+from : (c : tie.After-channel-at) → c .channel-at .result .from ≡ channel (runIn (entry (c .before .before) .args .run .now)) (c .before .before .event .given .0 .0 .channel) .from
+from c = let e = c .before .before in ap (λ x. x .from) (c .channel-at .ensures ∙ channel-same _ (entry e .pre .0 .listed .read) _ (there e))
+
+event-at-requires : tie.Need-event-at-requires
+event-at-requires c κs = let r = c .before .before .before .pre in (r .0 .listed, r .2)
+
+channel-at-requires : tie.Need-channel-at-requires
+channel-at-requires c κs = let e = c .before in channel-record _ (entry e .pre .0 .listed .read) _ (there e)
 
 shared-slice-read-result : tie.Need-shared-slice-read-result
 shared-slice-read-result c =
-    let o = c .before .before .before .before .before .before .before in
-    let r = o .before .before .before .before .before .pre in
-    let w = r .0 .tables in
-    let n = w .known .sides .receiver _ _ _ (sym (o .event-at .ensures) ∙ c .before .before .before .before .before .event .given .1) .0 in
-    let from = ap (λ x. x .from) (c .before .before .before .channel-at .ensures ∙ channel-same _ (w .read) _ n) in
-    omega (arith, w .known .sides .ends _ n .0, from, r .1 .size)
+    let h = c .before .before in
+    let e = h .before .before in
+    let r = entry e .pre in
+    omega (arith, r .0 .known .sides .ends _ (there e) .0, from h, r .1 .size)
+
+partner-of-requires : tie.Need-partner-of-requires
+partner-of-requires c κs = let r = entry (c .before .before .before .before) .pre in (r .0 .listed .long, listed-slot _ _ (r .0 .listed) (r .2))
 
 returns : tie.Need-returns
 returns c = past-no _ _ _ _ (no-receive _ (sym (c .before .before .event-at .ensures) ∙ c .enum-told .given .1) refl)
@@ -37,16 +52,14 @@ returns-3 c = past-no _ _ _ _ (no-receive _ (sym (c .before .before .event-at .e
 
 returns-4 : tie.Need-returns-4
 returns-4 c =
-    let o = c .before .before .before .before .before .before .before .before in
-    let w = o .before .before .before .before .before .pre .0 .tables in
-    let v = sym (o .event-at .ensures) ∙ c .before .before .before .before .before .before .event .given .1 in
-    let n = w .known .sides .receiver _ _ _ v .0 in
-    rw (c .before .before .slot-of .ensures .0)
-    (past-receive _ _ _ _ (w .known) _ (w .partners) _ v _ (ap (λ x. x .from) (c .before .before .before .before .channel-at .ensures ∙ channel-same _ (w .read) _ n)))
+    let h = c .before .before .before in
+    let e = h .before .before in
+    let w = entry e .pre .0 in
+    rw (c .partner-of .ensures) (past-receive _ _ _ _ (w .known) _ (w .partners) _ (received e) _ (from h))
 
 pub sent-past-spec : {M : Type 1} → statement M
 sent-past-spec =
     tie.close (tie.spec
-    (λ c κs. search needs) (λ c. search needs) (λ c. search needs) (λ c. search needs) (λ c. search needs)
-    channel-at-requires (λ c. search needs) slot-of-requires (λ c. search needs) shared-slice-read-result
-    (λ c. search needs) (λ c. search needs) returns returns-2 returns-3 returns-4)
+    event-at-requires (λ c. search needs) (λ c. search needs) (λ c. search needs) (λ c. search needs)
+    channel-at-requires (λ c. search needs) (λ c. search needs) shared-slice-read-result partner-of-requires
+    returns returns-2 returns-3 returns-4)

@@ -14,7 +14,7 @@ use Rattle.cut.proofs.transit.tally_for.Tie as tie
 
 returns : tie.Need-returns
 returns c =
-    let u = c .before .before .before .before .before .before in
+    let u = c .before .before .before .before .before in
     let ms = between (runIn (u .args .run .now)) (u .args .channel) (u .args .a) (u .args .b) in
     c .tally .ensures
     ∙ ap (λ n. tallyOf (stamped (comparisonOf n) (toZ w32 (ofZ w32 (c .before .signed-of .result)))) ms) (c .before .before .comparison-for .ensures)

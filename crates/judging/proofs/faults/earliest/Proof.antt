@@ -7,10 +7,10 @@ use Rattle.judging.proofs.faults.earliest.Statement.{statement}
 use Rattle.judging.proofs.faults.earliest.Tie as tie
 
 abbrev Inv-loop : tie.InvT-loop
-Inv-loop run places bad n first₀ p₀ first p = (p ≤ n) × Earliest run p bad first
+Inv-loop run index bad n first₀ p₀ first p = (p ≤ n) × Earliest run p bad first
 
 abbrev μ-loop : tie.MeasureT-loop
-μ-loop run places bad n first₀ p₀ first p = n - p
+μ-loop run index bad n first₀ p₀ first p = n - p
 
 loop-holds : tie.Need-loop-holds Inv-loop μ-loop
 loop-holds c = (zero-le, earliest-start _ _)

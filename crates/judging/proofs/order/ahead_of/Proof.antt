@@ -1,28 +1,37 @@
 use borrow.Author.Needs.{needs}
 use native.Mathlib.Omega.{arith}
-use mathlib.Core.Path.{refl, sym, ap, _∙_}
+use mathlib.Core.Path.{_≡_, refl, sym, ap, _∙_}
+use Rattle.model.specs.Run.{into}
+use Rattle.model.specs.declared.Event.the-variants.{Receive}
 use Rattle.model.proofs.Messages.{no-receive}
+use Rattle.run.specs.Said.{runIn}
 use Rattle.judging.specs.Order.AheadIs.{nothing}
-use Rattle.run.proofs.Listed.{channel-record, channel-same, placed-slot}
+use Rattle.run.proofs.Listed.{channel-record, channel-same, listed-slot}
 use Rattle.judging.proofs.Orders.{ahead-later, ahead-receive}
 use Rattle.judging.proofs.order.ahead_of.Statement.{statement}
 use Rattle.judging.proofs.order.ahead_of.Tie as tie
 
+-- the entry, and where the event is known to be a receive
+abbrev entry : tie.After-event → tie.Start
+entry e = e .before .before .before .before .before
+
+received : (e : tie.After-event) → into (runIn (entry e .args .run .now)) (entry e .args .p) (entry e .args .k) ≡ Receive (e .event .given .0 .0)
+received e = sym (e .before .before .event-at .ensures) ∙ e .event .given .1
+
+event-at-requires : tie.Need-event-at-requires
+event-at-requires c κs = let r = c .before .before .pre in (r .0 .listed, r .1)
+
 channel-at-requires : tie.Need-channel-at-requires
-channel-at-requires c κs =
-    let r = c .before .before .before .before .before .before .before .pre in
-    channel-record _ (r .0 .read) _ (r .1 .sides .receiver _ _ _ (sym (c .before .before .before .event-at .ensures) ∙ c .before .event .given .1) .0)
+channel-at-requires c κs = let r = entry (c .before) .pre in channel-record _ (r .0 .listed .read) _ (r .0 .known .sides .receiver _ _ _ (received (c .before)) .0)
 
-slot-of-requires : tie.Need-slot-of-requires
-slot-of-requires c κs =
-    let r = c .before .before .before .before .before .before .before .before .pre in
-    placed-slot _ _ (r .0) (r .4)
+partner-of-requires : tie.Need-partner-of-requires
+partner-of-requires c κs = let r = entry (c .before .before) .pre in (r .0 .listed .long, listed-slot _ _ (r .0 .listed) (r .1))
 
-sub-t15 : tie.Need-sub-t15
-sub-t15 c =
-    let r = c .before .before .before .before .before .before .before .before .before .before .pre in
-    let v = sym (c .before .before .before .before .before .before .event-at .ensures) ∙ c .before .before .before .before .event .given .1 in
-    rw (c .before .slot-of .ensures .0) (omega (arith, ahead-later _ (r .1) _ (r .2) _ _ _ v))
+sub-t11 : tie.Need-sub-t11
+sub-t11 c =
+    let e = c .before .before .before in
+    let r = entry e .pre in
+    omega (arith, c .partner-of .ensures, ahead-later _ (r .0 .known) _ (r .0 .partners) _ _ _ (received e))
 
 returns : tie.Need-returns
 returns c = nothing refl refl (no-receive _ (sym (c .before .before .event-at .ensures) ∙ c .enum-told .given .1) refl)
@@ -35,14 +44,13 @@ returns-3 c = nothing refl refl (no-receive _ (sym (c .before .before .event-at 
 
 returns-4 : tie.Need-returns-4
 returns-4 c =
-    let r = c .before .before .before .before .before .before .before .before .before .before .pre in
-    let v = sym (c .before .before .before .before .before .before .event-at .ensures) ∙ c .before .before .before .before .event .given .1 in
-    let n = r .1 .sides .receiver _ _ _ v .0 in
-    rw (c .before .slot-of .ensures .0) (ahead-receive _ (r .1) _ (r .2) _ _ _ v _ (ap (λ x. x .from) (c .before .before .channel-at .ensures ∙ channel-same _ (r .0 .read) _ n)))
+    let e = c .before .before .before in
+    let r = entry e .pre in
+    let n = r .0 .known .sides .receiver _ _ _ (received e) .0 in
+    rw (c .partner-of .ensures) (ahead-receive _ (r .0 .known) _ (r .0 .partners) _ _ _ (received e) _ (ap (λ x. x .from) (c .before .channel-at .ensures ∙ channel-same _ (r .0 .listed .read) _ n)))
 
 pub ahead-of-spec : {M : Type 1} → statement M
 ahead-of-spec =
     tie.close (tie.spec
-    (λ c κs. search needs) (λ c. search needs) (λ c. search needs) (λ c. search needs) (λ c. search needs)
-    channel-at-requires slot-of-requires (λ c. search needs) (λ c. search needs) sub-t15 returns returns-2
-    returns-3 returns-4)
+    event-at-requires (λ c. search needs) (λ c. search needs) (λ c. search needs) (λ c. search needs)
+    channel-at-requires partner-of-requires sub-t11 returns returns-2 returns-3 returns-4)

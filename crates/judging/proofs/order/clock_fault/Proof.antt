@@ -1,59 +1,66 @@
+-- `clock_fault` meets its contract. The invariant of its loop: no state ahead of k has a wrong clock.
 use native.Mathlib.Omega.{arith}
+use mathlib.Core.Path.{_≡_}
 use Prim.Native.Nat.{ℕ, _+_, _-_, _≤_, _<_}
-use Rattle.model.specs.Run.{IsState}
+use Rattle.model.specs.Run.{IsState, count}
 use Rattle.run.specs.Said.{runIn}
 use Rattle.judging.specs.Judged.{WrongClock}
-use Rattle.run.proofs.Listed.{listed-places}
 use Rattle.judging.proofs.Partners.{row-of}
 use Rattle.judging.proofs.Orders.{first-of-here, first-of-none, none-next}
 use Rattle.judging.proofs.order.clock_fault.Statement.{statement}
 use Rattle.judging.proofs.order.clock_fault.Tie as tie
 
 abbrev Inv-loop : tie.InvT-loop
-Inv-loop run counts places clocks n p row count k₀ k = (1 ≤ k) × ((l : ℕ) → IsState (runIn run) p l → l < k → ¬ WrongClock run p l)
+Inv-loop run index n p count k₀ k = (1 ≤ k) × ((l : ℕ) → IsState (runIn run) p l → l < k → ¬ WrongClock run p l)
 
 abbrev μ-loop : tie.MeasureT-loop
-μ-loop run counts places clocks n p row count k₀ k = count + 1 - k
+μ-loop run index n p count k₀ k = count + 1 - k
 
-mul-count : tie.Need-mul-count Inv-loop μ-loop
-mul-count c = let r = c .before .before .before .before .pre in omega (arith, row-of (r .0) (r .3) (r .4) .eight)
+-- the entry, seen from the loop
+abbrev entry : tie.At-loop Inv-loop μ-loop → tie.Start Inv-loop μ-loop
+entry l = l .before .before .before .before
 
-shared-slice-read-count : tie.Need-shared-slice-read-count Inv-loop μ-loop
-shared-slice-read-count c = let r = c .before .before .before .before .before .pre in row-of (r .0) (r .3) (r .4) .room
+counted : (l : tie.At-loop Inv-loop μ-loop) → l .before .count-of .result ≡ count (runIn (entry l .args .run .now)) (entry l .args .p)
+counted l = let r = entry l .pre in omega (arith, l .before .count-of .ensures, row-of (r .0) (r .2) (r .3) .counted)
+
+count-of-requires : tie.Need-count-of-requires Inv-loop μ-loop
+count-of-requires c κs = let r = c .before .before .pre in (r .0 .long, row-of (r .0) (r .2) (r .3) .eight)
 
 loop-holds : tie.Need-loop-holds Inv-loop μ-loop
 loop-holds c = (omega arith, λ l t h. absurd (omega (arith, t .counted)))
 
+-- state k is there
+here : (c : tie.In-loop Inv-loop μ-loop) → IsState (runIn (entry (c .before) .args .run .now)) (entry (c .before) .args .p) (c .before .loop .k)
+here c = record { counted = c .before .loop .inv .0; there = omega (arith, counted (c .before), c .loop-test .taken) }
+
 differs-requires : tie.Need-differs-requires Inv-loop μ-loop
-differs-requires c κs =
-    let r = c .before .before .before .before .before .before .before .pre in
-    (listed-places (r .0), r .1, r .2, r .3, record { counted = c .before .loop .inv .0; there = omega (arith, row-of (r .0) (r .3) (r .4) .counted, c .loop-test .taken) })
+differs-requires c κs = let r = entry (c .before) .pre in (r .0, r .1, r .2, here c)
 
 returns : tie.Need-returns Inv-loop μ-loop
 returns c =
-    let r = c .before .before .before .before .before .before .before .before .before .pre in
-    let i = c .before .before .before .loop .inv in
-    first-of-here _ (WrongClock (c .before .before .before .before .before .before .before .before .before .args .run .now)) _ _ (record { counted = i .0; there = omega (arith, row-of (r .0) (r .3) (r .4) .counted, c .before .before .loop-test .taken) }) (c .before .differs .ensures .differs (c .if1 .taken)) (i .1)
+    let l = c .before .before .before in
+    first-of-here _ (WrongClock (entry l .args .run .now)) _ _ (here (c .before .before)) (c .before .differs .ensures .differs (c .if1 .taken)) (l .loop .inv .1)
 
 add-k : tie.Need-add-k Inv-loop μ-loop
 add-k c =
-    let r = c .before .before .before .before .before .before .before .before .before .pre in
-    let w = row-of (r .0) (r .3) (r .4) in
-    omega (arith, c .before .before .loop-test .taken)
+    let l = c .before .before .before in
+    let r = entry l .pre in
+    omega (arith, counted l, row-of (r .0) (r .2) (r .3) .few, c .before .before .loop-test .taken)
 
 loop-less : tie.Need-loop-less Inv-loop μ-loop
 loop-less c = omega (arith, c .before .before .loop-test .taken)
 
 loop-again : tie.Need-loop-again Inv-loop μ-loop
-loop-again c = (omega arith, none-next _ (WrongClock (c .before .before .before .before .before .before .before .before .before .args .run .now)) _ _ (c .before .differs .ensures .agrees (c .if1 .left)) (c .before .before .before .loop .inv .1))
+loop-again c =
+    let l = c .before .before .before in
+    (omega arith, none-next _ (WrongClock (entry l .args .run .now)) _ _ (c .before .differs .ensures .agrees (c .if1 .left)) (l .loop .inv .1))
 
 returns-2 : tie.Need-returns-2 Inv-loop μ-loop
 returns-2 c =
-    let r = c .before .before .before .before .before .before .before .pre in
-    first-of-none _ (WrongClock (c .before .before .before .before .before .before .before .args .run .now)) _ _ (omega (arith, row-of (r .0) (r .3) (r .4) .counted, c .loop-test .left)) (c .before .loop .inv .1)
+    let l = c .before in
+    first-of-none _ (WrongClock (entry l .args .run .now)) _ _ (omega (arith, counted l, c .loop-test .left)) (l .loop .inv .1)
 
 pub clock-fault-spec : {M : Type 1} → statement M
 clock-fault-spec =
     tie.close (tie.spec
-    Inv-loop μ-loop mul-count shared-slice-read-count loop-holds differs-requires returns add-k loop-less
-    loop-again returns-2)
+    Inv-loop μ-loop count-of-requires loop-holds differs-requires returns add-k loop-less loop-again returns-2)

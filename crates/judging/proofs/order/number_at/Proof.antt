@@ -1,4 +1,5 @@
 use borrow.Author.Needs.{needs}
+use mathlib.Core.Path.{_∙_, sym}
 use borrow.Author.Tests.{eq-eqb, ne-eqb}
 use Rattle.judging.specs.Order.{numberAt}
 use Rattle.judging.proofs.order.number_at.Statement.{statement}
@@ -10,10 +11,7 @@ returns c = simp (eq-eqb _ 0 (c .if1 .taken))
 
 returns-2 : tie.Need-returns-2
 unfolding numberAt
-returns-2 c = simp (ne-eqb _ 0 (c .before .before .if1 .left), c .before .slot-of .ensures .0)
+returns-2 c = simp (ne-eqb _ 0 (c .before .if1 .left)) (c .clock-at .ensures)
 
 pub number-at-spec : {M : Type 1} → statement M
-number-at-spec =
-    tie.close (tie.spec
-    returns (λ c κs. search needs) (λ c. search needs) (λ c. search needs) (λ c. search needs) (λ c. search needs)
-    returns-2)
+number-at-spec = tie.close (tie.spec returns (λ c κs. search needs) returns-2)

@@ -9,7 +9,7 @@ use Rattle.model.specs.Run.{into}
 use Rattle.run.specs.Said.{runIn}
 use Rattle.judging.specs.Pairing.{carries}
 use Rattle.judging.specs.Pairing.Found.{nowhere, here}
-use Rattle.run.proofs.Listed.{placed-few}
+use Rattle.run.proofs.Listed.{listed-few}
 use Rattle.judging.proofs.Pairs.{T-true, false-T}
 use Rattle.judging.proofs.pairing.find.Statement.{statement}
 use Rattle.judging.proofs.pairing.find.Tie as tie
@@ -18,10 +18,10 @@ below : {x n : ℕ} → x < n + 1 → x ≤ n
 below h = omega arith
 
 abbrev Inv-loop : tie.InvT-loop
-Inv-loop run places p low high sends message k₀ k = (low ≤ k) × ((l : ℕ) → low ≤ l → l < k → ¬ T (carries sends (into (runIn run) p l) message))
+Inv-loop run index p low high sends message k₀ k = (low ≤ k) × ((l : ℕ) → low ≤ l → l < k → ¬ T (carries sends (into (runIn run) p l) message))
 
 abbrev μ-loop : tie.MeasureT-loop
-μ-loop run places p low high sends message k₀ k = suc high - k
+μ-loop run index p low high sends message k₀ k = suc high - k
 
 loop-holds : tie.Need-loop-holds Inv-loop μ-loop
 loop-holds c = (omega arith, λ l h g. absurd (omega arith))
@@ -38,7 +38,7 @@ returns c =
     here (c .before .before .before .before .loop .inv .0) (c .before .before .before .loop-test .taken) (T-true (sym g ∙ c .if1 .taken))
 
 add-k : tie.Need-add-k Inv-loop μ-loop
-add-k c = let r = c .before .before .before .before .before .before .before .pre in omega (arith, placed-few _ _ (r .0) _ (r .1))
+add-k c = let r = c .before .before .before .before .before .before .before .pre in omega (arith, listed-few _ _ (r .0) _ (r .1))
 
 loop-again : tie.Need-loop-again Inv-loop μ-loop
 loop-again c =

@@ -1,20 +1,24 @@
 use borrow.Author.Needs.{needs}
-use Rattle.run.proofs.Listed.{listed-places}
 use Rattle.judging.proofs.Orders.{firsts-all}
 use Rattle.judging.proofs.Verdicts.{clock-judged}
 use Rattle.judging.proofs.whole.first_wrong_clock.Statement.{statement}
 use Rattle.judging.proofs.whole.first_wrong_clock.Tie as tie
 
+-- the entry, seen from behind the comparing
+abbrev entry : tie.After-clock-faults → tie.Start
+entry f = f .before .before .before .before
+
 earliest-requires : tie.Need-earliest-requires
 earliest-requires c κs =
-    let r = c .before .before .before .before .before .before .before .before .pre in
-    let w = c .before .before .clock-faults .ensures in
-    (listed-places (r .0), c .before .before .clock-faults .kept .1 .1 .1 .1 .0, r .3, λ p h. w .each p h .there)
+    let f = c .before .before in
+    let r = entry f .pre in
+    (r .0, f .clock-faults .kept .1 .1 .0, r .2, λ p h. f .clock-faults .ensures .each p h .there)
 
 returns : tie.Need-returns
 returns c =
-    let r = c .before .before .before .before .before .before .before .before .before .pre in
-    clock-judged _ (r .0 .read) _ (firsts-all _ _ _ _ (r .3) (c .before .before .before .clock-faults .ensures)) _ (rw (r .3) at (c .earliest .ensures))
+    let f = c .before .before .before in
+    let r = entry f .pre in
+    clock-judged _ (r .0 .read) _ (firsts-all _ _ _ _ (r .2) (f .clock-faults .ensures)) _ (rw (r .2) at (c .earliest .ensures))
 
 pub first-wrong-clock-spec : {M : Type 1} → statement M
 first-wrong-clock-spec =

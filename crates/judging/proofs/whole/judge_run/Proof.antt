@@ -1,22 +1,23 @@
 use borrow.Author.Needs.{needs}
-use mathlib.Core.Path.{_∙_}
+use mathlib.Core.Path.{ap, _∙_}
+use Prim.Native.Nat.{ℕ}
+use lib.ListN.{length, length-replicate}
 use Rattle.judging.specs.Judged.Judged.{byPass}
 use Rattle.judging.proofs.Verdicts.{refused-by-pass, listed-by-pass}
 use Rattle.judging.proofs.whole.judge_run.Statement.{statement}
 use Rattle.judging.proofs.whole.judge_run.Tie as tie
 
 returns : tie.Need-returns
-returns c = let e = c .enum-told .given .1 in rw e (byPass _ (refused-by-pass _ (c .before .before .before .before .before .before .read-run .ensures) e), tt)
+returns c = let e = c .enum-told .given .1 in rw e (byPass _ (refused-by-pass _ (c .before .before .before .before .read-run .ensures) e), tt)
 
 judge-states-requires : tie.Need-judge-states-requires
 judge-states-requires c κs =
-    let r = c .before .before .before .before .before .before .before .before .before .before .before .before .before .before .before .before .before .before .before .pre in
-    let w = listed-by-pass _ (c .before .before .before .before .before .before .before .before .before .before .before .read-run .ensures) (c .before .before .before .before .before .reading .given .1) (c .before .before .before .before .before .before .before .before .before .before .before .read-run .kept .1 .1 .0 ∙ r .1) in
-    (w .0, r .2, r .3, w .1)
+    let p = c .before .before .before .before .before .before in
+    let r = p .before .before .before .before .pre in
+    listed-by-pass _ (p .read-run .ensures) (c .before .before .reading .given .1) (p .read-run .kept .1 .0 ∙ ap length r ∙ length-replicate {A = ℕ} 40968 0)
 
 pub judge-run-spec : {M : Type 1} → statement M
 judge-run-spec =
     tie.close (tie.spec
-    (λ c κs. search needs) (λ c. search needs) (λ c. search needs) (λ c. search needs) (λ c. search needs) returns
-    judge-states-requires (λ c. search needs) (λ c. search needs) (λ c. search needs) (λ c. search needs)
-    (λ c. search needs))
+    (λ c κs. search needs) (λ c. search needs) (λ c. search needs) (λ c. search needs) returns
+    judge-states-requires (λ c. search needs) (λ c. search needs))

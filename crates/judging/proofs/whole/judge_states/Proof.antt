@@ -1,64 +1,85 @@
+-- `judge_states` meets its contract: at each way out, what the three judgements so far gave.
 use borrow.Author.Needs.{needs}
-use mathlib.Core.Path.{_≡_, ap, _∙_}
-use mathlib.Core.List.{List}
-use Prim.Native.Nat.{ℕ}
-use lib.ListN.{length, replicate, length-replicate}
+use mathlib.Core.Path.{ap}
+use Rattle.model.specs.Run.{Known}
+use Rattle.model.specs.Cut.{Clocks}
+use Rattle.run.specs.Said.{runIn}
+use Rattle.run.specs.Tables.{Partnered, Matched, clockIn}
+use Rattle.judging.specs.Judged.{Unpaired, Circular, Nowhere}
 use Rattle.judging.specs.Judged.Judged.{byPairing, byCircle, byClock, wholly}
 use Rattle.judging.proofs.Verdicts.{unpaired-at, paired-none, circular-at, circular-none, clock-at, clock-none}
 use Rattle.judging.proofs.whole.judge_states.Statement.{statement}
 use Rattle.judging.proofs.whole.judge_states.Tie as tie
 
-zeros-long : {table : List ℕ} → table ≡ replicate 4096 0 → length table ≡ 4096
-zeros-long e = ap length e ∙ length-replicate {A = ℕ} 4096 0
+-- the entry seen from behind the pairing; that seen from where it is without fault; that seen from behind the ordering, and so on
+abbrev entry : tie.After-first-unpaired → tie.Start
+entry f = f .before .before .before .before
+
+abbrev pairing : tie.After-enum-told → tie.After-first-unpaired
+pairing t = t .before .before .before .before
+
+abbrev past : tie.After-first-circular → tie.After-enum-told
+past o = o .before .before
+
+abbrev ordering : tie.After-enum-told2 → tie.After-first-circular
+ordering t = t .before .before .before .before
+
+paired : (t : tie.After-enum-told) → Nowhere (entry (pairing t) .args .run .now) (Unpaired (entry (pairing t) .args .run .now)) × Known (runIn (entry (pairing t) .args .run .now)) × Partnered (runIn (entry (pairing t) .args .run .now)) (pairing t .first-unpaired .last .1 .0)
+paired t = paired-none (pairing t .first-unpaired .ensures .0) (t .enum-told .given .1)
 
 first-unpaired-requires : tie.Need-first-unpaired-requires
-first-unpaired-requires c κs =
-    let r = c .before .before .before .before .before .before .pre in
-    (r .0, r .1, ap (λ h. h .processes) (r .3))
+first-unpaired-requires c κs = let r = c .before .before .before .pre in (r .0, r .1, ap (λ h. h .processes) (r .2))
 
 returns : tie.Need-returns
 returns c =
-    let r = c .before .before .before .before .before .before .before .before .before .before .before .before .before .pre in
-    rw (c .refusal-of .ensures) (byPairing _ (r .0 .read) (unpaired-at _ (c .before .before .before .before .before .before .first-unpaired .ensures) (c .before .before .unpaired .given .1)), tt)
+    let f = c .before .before .before .before .before .before in
+    rw (c .refusal-of .ensures) (byPairing _ (entry f .pre .0 .read) (unpaired-at _ (f .first-unpaired .ensures .0) (c .before .before .unpaired .given .1)), tt)
 
 first-circular-requires : tie.Need-first-circular-requires
 first-circular-requires c κs =
-    let r = c .before .before .before .before .before .before .before .before .before .before .before .before .before .pre in
-    let p = paired-none (c .before .before .before .before .before .before .first-unpaired .ensures) (c .before .before .enum-told .given .1) in
-    (r .0, p .1, p .2, c .before .before .before .before .before .before .first-unpaired .kept .1 .1 .1 .0 ∙ zeros-long (r .1), r .2, ap (λ h. h .processes) (r .3))
+    let t = c .before in
+    let f = pairing t in
+    let p = paired t in
+    (record { listed = f .first-unpaired .ensures .1; known = p .1; partners = p .2 }, ap (λ h. h .processes) (entry f .pre .2))
 
 returns-2 : tie.Need-returns-2
 returns-2 c =
-    let r = c .before .before .before .before .before .before .before .before .before .before .before .before .before .before .before .before .before .before .before .before .pre in
-    let p = paired-none (c .before .before .before .before .before .before .before .before .before .before .before .before .before .first-unpaired .ensures) (c .before .before .before .before .before .before .before .before .before .enum-told .given .1) in
-    rw (c .refusal-of2 .ensures) (byCircle _ (r .0 .read) (p .0) (circular-at _ (c .before .before .before .before .before .before .first-circular .ensures) (c .before .before .circular .given .1)), tt)
+    let o = c .before .before .before .before .before .before in
+    let t = past o in
+    rw (c .refusal-of2 .ensures) (byCircle _ (entry (pairing t) .pre .0 .read) (paired t .0) (circular-at _ (o .first-circular .ensures .0) (c .before .before .circular .given .1)), tt)
+
+ordered : (t : tie.After-enum-told2) → Nowhere (entry (pairing (past (ordering t))) .args .run .now) (Circular (entry (pairing (past (ordering t))) .args .run .now)) × Clocks (runIn (entry (pairing (past (ordering t))) .args .run .now)) (clockIn (ordering t .first-circular .last .1 .0))
+ordered t = circular-none (ordering t .first-circular .ensures .0) (t .enum-told2 .given .1)
 
 first-wrong-clock-requires : tie.Need-first-wrong-clock-requires
 first-wrong-clock-requires c κs =
-    let r = c .before .before .before .before .before .before .before .before .before .before .before .before .before .before .before .before .before .before .before .pre in
-    let o = circular-none (c .before .before .before .before .before .first-circular .ensures) (c .before .enum-told2 .given .1) in
-    (r .0, o .1, c .before .before .before .before .before .first-circular .kept .1 .1 .1 .1 .0 ∙ r .2, ap (λ h. h .processes) (r .3))
+    let t = c .before in
+    let o = ordering t in
+    (o .first-circular .ensures .1 .listed, ordered t .1, ap (λ h. h .processes) (entry (pairing (past o)) .pre .2))
 
 returns-3 : tie.Need-returns-3
 returns-3 c =
-    let r = c .before .before .before .before .before .before .before .before .before .before .before .before .before .before .before .before .before .before .before .before .before .before .before .before .pre in
-    let p = paired-none (c .before .before .before .before .before .before .before .before .before .before .before .before .before .before .before .before .before .first-unpaired .ensures) (c .before .before .before .before .before .before .before .before .before .before .before .before .before .enum-told .given .1) in
-    let o = circular-none (c .before .before .before .before .before .before .before .before .before .before .first-circular .ensures) (c .before .before .before .before .before .before .enum-told2 .given .1) in
-    rw (c .refusal-of3 .ensures) (byClock _ (r .0 .read) (p .0) (o .0) (clock-at _ (c .before .before .before .before .first-wrong-clock .ensures) (c .before .before .wrong .given .1)), tt)
+    let w = c .before .before .before .before in
+    let t = w .before .before in
+    let u = past (ordering t) in
+    rw (c .refusal-of3 .ensures) (byClock _ (entry (pairing u) .pre .0 .read) (paired u .0) (ordered t .0) (clock-at _ (w .first-wrong-clock .ensures) (c .before .before .wrong .given .1)), tt)
 
 returns-4 : tie.Need-returns-4
 returns-4 c =
-    let r = c .before .before .before .before .before .before .before .before .before .before .before .before .before .before .before .before .before .before .before .before .before .before .pre in
-    let p = paired-none (c .before .before .before .before .before .before .before .before .before .before .before .before .before .before .before .first-unpaired .ensures) (c .before .before .before .before .before .before .before .before .before .before .before .enum-told .given .1) in
-    let o = circular-none (c .before .before .before .before .before .before .before .before .first-circular .ensures) (c .before .before .before .before .enum-told2 .given .1) in
-    let w = clock-none (c .before .before .first-wrong-clock .ensures) (c .enum-told3 .given .1) in
-    rw (r .3) (wholly (r .0 .read) (p .0) (o .0) w, record { read = r .0 .read; known = p .1; index = r .0 .index; partners = p .2; clocks = o .1; places-long = r .0 .long; partners-long = c .before .before .before .before .before .before .before .before .before .before .before .before .before .before .before .first-unpaired .kept .1 .1 .1 .0 ∙ zeros-long (r .1); clocks-long = c .before .before .before .before .before .before .before .before .first-circular .kept .1 .1 .1 .1 .0 ∙ r .2 })
+    let w = c .before .before in
+    let t = w .before .before in
+    let u = past (ordering t) in
+    let r = entry (pairing u) .pre in
+    let m = ordering t .first-circular .ensures .1 in
+    rw (r .2) (
+      wholly (r .0 .read) (paired u .0) (ordered t .0) (clock-none (w .first-wrong-clock .ensures) (c .enum-told3 .given .1)),
+      record { listed = m .listed; known = m .known; partners = m .partners; clocks = ordered t .1 },
+    )
 
 pub judge-states-spec : {M : Type 1} → statement M
 judge-states-spec =
     tie.close (tie.spec
     first-unpaired-requires (λ c. search needs) (λ c κs. search needs) (λ c. search needs) returns
-    (λ c. search needs) first-circular-requires (λ c. search needs) (λ c κs. search needs) (λ c. search needs)
+    (λ c. search needs) first-circular-requires (λ c. search needs) (λ c κs. search needs)
     (λ c. search needs) returns-2 (λ c. search needs) first-wrong-clock-requires (λ c. search needs)
-    (λ c κs. search needs) (λ c. search needs) (λ c. search needs) returns-3 (λ c. search needs)
-    (λ c. search needs) (λ c. search needs) returns-4)
+    (λ c κs. search needs) (λ c. search needs) returns-3 (λ c. search needs) (λ c. search needs) returns-4)

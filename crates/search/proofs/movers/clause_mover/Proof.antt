@@ -8,13 +8,13 @@ use Rattle.search.proofs.movers.clause_mover.Tie as tie
 
 local-mover-requires : tie.Need-local-mover-requires
 local-mover-requires c κs =
-    let r = c .before .before .before .before .before .before .before .before .before .before .pre in
+    let r = c .before .before .before .before .before .before .before .before .before .pre in
     let e = sym (c .before .before .before .before .clause-at .ensures) ∙ c .before .before .clause .given .1 in
-    (record { partners = _; lent = r .0 }, r .1, held-local _ _ _ _ (r .2) e)
+    (r .0, r .1, held-local _ _ _ _ (r .2) e)
 
 channel-mover-requires : tie.Need-channel-mover-requires
 channel-mover-requires c κs =
-    let r = c .before .before .before .before .before .before .before .before .before .before .pre in
+    let r = c .before .before .before .before .before .before .before .before .before .pre in
     let e = sym (c .before .before .before .before .clause-at .ensures) ∙ c .before .before .clause2 .given .1 in
     (r .0, r .1, held-channel _ _ _ _ (r .2) e)
 

@@ -15,7 +15,7 @@ shared-slice-read-k : tie.Need-shared-slice-read-k
 shared-slice-read-k c =
     let r = c .before .before .before .before .before .pre in
     let a = c .before .before .before .before .before .args in
-    let read = r .0 .lent .tables .read in
+    let read = r .0 .listed .read in
     let h : a .clause .process < processes (runIn (a .run .now)) = omega (arith, r .2 .process, processes-are _ read) in
     omega (arith, r .1 .size)
 
@@ -23,7 +23,7 @@ local-holds-requires : tie.Need-local-holds-requires
 local-holds-requires c κs =
     let r = c .before .before .before .before .before .before .pre in
     let a = c .before .before .before .before .before .before .args in
-    let read = r .0 .lent .tables .read in
+    let read = r .0 .listed .read in
     let h : a .clause .process < processes (runIn (a .run .now)) = omega (arith, r .2 .process, processes-are _ read) in
     (r .0, r .1 .states _ h, r .2 .value)
 
@@ -31,7 +31,7 @@ returns : tie.Need-returns
 returns c =
     let r = c .before .before .before .before .before .before .before .before .pre in
     let a = c .before .before .before .before .before .before .before .before .args in
-    let read = r .0 .lent .tables .read in
+    let read = r .0 .listed .read in
     let h : a .clause .process < processes (runIn (a .run .now)) = omega (arith, r .2 .process, processes-are _ read) in
     let e : toZ w32 (ofZ w32 (a .clause .constant)) ≡ a .clause .constant = search needs in
     local-true _ _ _ _ _ _ e (sym (c .before .local-holds .ensures) ∙ c .if1 .taken)
@@ -40,7 +40,7 @@ returns-2 : tie.Need-returns-2
 returns-2 c =
     let r = c .before .before .before .before .before .before .before .before .pre in
     let a = c .before .before .before .before .before .before .before .before .args in
-    let read = r .0 .lent .tables .read in
+    let read = r .0 .listed .read in
     let h : a .clause .process < processes (runIn (a .run .now)) = omega (arith, r .2 .process, processes-are _ read) in
     let e : toZ w32 (ofZ w32 (a .clause .constant)) ≡ a .clause .constant = search needs in
     local-false _ _ _ _ _ _ h e (sym (c .before .local-holds .ensures) ∙ c .if1 .left)

@@ -9,12 +9,12 @@ use native.Mathlib.Decide.{ℕ-discrete}
 use native.Mathlib.Omega.{arith}
 use borrow.Author.Tests.{eq-eqb, ne-eqb}
 use lib.Dec.{eqb}
-use lib.ListN.{length, getD, set, length-set, length-append, List·getD-append}
-use lib.Seq.{ext-getD, getD-set-same, getD-set-other, getD-append-seam}
+use lib.ListN.{length, getD, set, take, length-set, length-append, List·getD-append}
+use lib.Seq.{ext-getD, getD-set-same, getD-set-other, getD-append-seam, getD-take, length-take-le, take-set-lt, take-set-le}
 use Rattle.record.specs.Record.{fieldsAt}
 use Rattle.run.specs.States.{put, placesOf}
 use Rattle.run.specs.Read.{countsOf}
-use Rattle.run.specs.Tables.{Indexed}
+use Rattle.run.specs.Tables.{Indexed, Fresh}
 use Rattle.run.proofs.Tabulate.{tabulate-length, tabulate-at}
 
 places-snoc : (s qs : List ℕ) (q p : ℕ) → placesOf s (qs ++ (q ∷ [])) p ≡ placesOf s qs p ++ put (eqb (fieldsAt s q .process) p) q []
@@ -43,10 +43,21 @@ pub counts-length : (s qs : List ℕ) → length (countsOf s qs) ≡ 8
 unfolding countsOf
 counts-length s qs = tabulate-length 8 (λ p. length (placesOf s qs p))
 
+-- the counts are the first eight entries
+pub counts-eight : (ix : List ℕ) → length ix ≡ 40968 → length (take 8 ix) ≡ 8
+counts-eight ix e = length-take-le 8 ix (omega (arith, e))
+
 -- process p has one state more, at the place at
-module _ (s qs cs ps : List ℕ) (at p : ℕ) (own : fieldsAt s at .process ≡ p) (w : Indexed s qs cs ps) (row : p < 8) where
+module _ (s qs ix : List ℕ) (at p : ℕ) (own : fieldsAt s at .process ≡ p) (w : Indexed s qs ix) (row : p < 8) where
   abbrev n : ℕ
-  n = getD cs p 0
+  n = getD ix p 0
+
+  -- behind its place is written, and behind its count is
+  abbrev mid : List ℕ
+  mid = set ix (8 + (512 * p + n)) at
+
+  abbrev cs : List ℕ
+  cs = take 8 ix
 
   abbrev qs′ : List ℕ
   qs′ = qs ++ (at ∷ [])
@@ -55,13 +66,13 @@ module _ (s qs cs ps : List ℕ) (at p : ℕ) (own : fieldsAt s at .process ≡ 
   others i d = places-other s qs at i (λ e. d (sym e ∙ own))
 
   here : n ≡ length (placesOf s qs p)
-  here = ap (λ l. getD l p 0) (w .counted) ∙ counts-at s qs p row
+  here = sym (getD-take 8 ix p 0 row) ∙ ap (λ l. getD l p 0) (w .counted) ∙ counts-at s qs p row
 
   longer : length (placesOf s qs′ p) ≡ n + 1
   longer = ap length (places-same s qs at p own) ∙ length-append (placesOf s qs p) (at ∷ []) ∙ omega (arith, here)
 
-  counted : set cs p (n + 1) ≡ countsOf s qs′
-  counted = ext-getD 0 (set cs p (n + 1)) (countsOf s qs′) (length-set cs p (n + 1) ∙ eight ∙ sym (counts-length s qs′)) each
+  counts : set cs p (n + 1) ≡ countsOf s qs′
+  counts = ext-getD 0 (set cs p (n + 1)) (countsOf s qs′) (length-set cs p (n + 1) ∙ eight ∙ sym (counts-length s qs′)) each
     where
       eight : length cs ≡ 8
       eight = ap length (w .counted) ∙ counts-length s qs
@@ -74,36 +85,43 @@ module _ (s qs cs ps : List ℕ) (at p : ℕ) (own : fieldsAt s at .process ≡ 
             | no d ↦ rw (getD-set-other cs p i (n + 1) 0 d, counts-at s qs′ i l, others i d) (ap (λ l. getD l i 0) (w .counted) ∙ counts-at s qs i l)
           ]
 
-  placed : length ps ≡ 4096 → n < 512 → (p′ i : ℕ) → p′ < 8 → i < length (placesOf s qs′ p′)
-      → getD (set ps (512 * p + n) at) (512 * p′ + i) 0 ≡ getD (placesOf s qs′ p′) i 0
+  counted : take 8 (set mid p (n + 1)) ≡ countsOf s qs′
+  counted = take-set-lt 8 mid p (n + 1) row ∙ ap (λ l. set l p (n + 1)) (take-set-le 8 ix (8 + (512 * p + n)) at (omega arith)) ∙ counts
+
+  placed : length ix ≡ 40968 → n < 512 → (p′ i : ℕ) → p′ < 8 → i < length (placesOf s qs′ p′)
+      → getD mid (8 + (512 * p′ + i)) 0 ≡ getD (placesOf s qs′ p′) i 0
   placed long room p′ i l h = elim (ℕ-discrete p′ p) [
     | yes e ↦ own-row p′ e h
-    | no d ↦ rw (others p′ d) (getD-set-other ps (512 * p + n) (512 * p′ + i) at 0 (apart d) ∙ w .placed p′ i l (rw (others p′ d) at h))
+    | no d ↦ rw (others p′ d) (getD-set-other ix (8 + (512 * p + n)) (8 + (512 * p′ + i)) at 0 (apart d) ∙ w .placed p′ i l (rw (others p′ d) at h))
   ]
     where
-      apart : (p′ ≡ p → ⊥) → 512 * p′ + i ≡ 512 * p + n → ⊥
+      apart : (p′ ≡ p → ⊥) → 8 + (512 * p′ + i) ≡ 8 + (512 * p + n) → ⊥
       apart d z = let b = w .few p′ l in d (omega (arith, ap length (others p′ d)))
 
-      own-row : (q : ℕ) → q ≡ p → i < length (placesOf s qs′ q) → getD (set ps (512 * p + n) at) (512 * q + i) 0 ≡ getD (placesOf s qs′ q) i 0
+      own-row : (q : ℕ) → q ≡ p → i < length (placesOf s qs′ q) → getD mid (8 + (512 * q + i)) 0 ≡ getD (placesOf s qs′ q) i 0
       own-row q e h = rw (e, places-same s qs at p own) (⊎-elim last before (eq-or-lt-of-le (bound (rw e at h))))
         where
           bound : i < length (placesOf s qs′ p) → i ≤ n
           bound h = omega (arith, longer)
 
-          last : i ≡ n → getD (set ps (512 * p + n) at) (512 * p + i) 0 ≡ getD (placesOf s qs p ++ (at ∷ [])) i 0
-          last e = rw (e, getD-set-same ps (512 * p + n) at 0 (omega arith)) (rw here (sym (getD-append-seam (placesOf s qs p) at [] 0)))
+          last : i ≡ n → getD mid (8 + (512 * p + i)) 0 ≡ getD (placesOf s qs p ++ (at ∷ [])) i 0
+          last e = rw (e, getD-set-same ix (8 + (512 * p + n)) at 0 (omega arith)) (rw here (sym (getD-append-seam (placesOf s qs p) at [] 0)))
 
-          before : i < n → getD (set ps (512 * p + n) at) (512 * p + i) 0 ≡ getD (placesOf s qs p ++ (at ∷ [])) i 0
+          before : i < n → getD mid (8 + (512 * p + i)) 0 ≡ getD (placesOf s qs p ++ (at ∷ [])) i 0
           before h =
               let b : i < length (placesOf s qs p) = omega (arith, here) in
-              getD-set-other ps (512 * p + n) (512 * p + i) at 0 (λ z. omega arith) ∙ w .placed p i row b ∙ sym (List·getD-append (placesOf s qs p) (at ∷ []) 0 i b)
+              getD-set-other ix (8 + (512 * p + n)) (8 + (512 * p + i)) at 0 (λ z. omega arith) ∙ w .placed p i row b ∙ sym (List·getD-append (placesOf s qs p) (at ∷ []) 0 i b)
 
-  pub index-more : length ps ≡ 4096 → n < 512 → Indexed s qs′ (set cs p (n + 1)) (set ps (512 * p + n) at)
+  pub index-more : length ix ≡ 40968 → n < 512 → Indexed s qs′ (set mid p (n + 1))
   index-more long room = record {
     counted = counted;
     few = λ p′ l. elim (ℕ-discrete p′ p) [
       | yes e ↦ rw e (omega (arith, longer))
       | no d ↦ rw (others p′ d) (w .few p′ l)
     ];
-    placed = placed long room;
+    placed = λ p′ i l h. getD-set-other mid p (8 + (512 * p′ + i)) (n + 1) 0 (λ z. omega arith) ∙ placed long room p′ i l h;
   }
+
+  -- nothing is written from 4104 on
+  pub fresh-more : n < 512 → Fresh 4104 ix → Fresh 4104 (set mid p (n + 1))
+  fresh-more room w x h = getD-set-other mid p x (n + 1) 0 (λ z. omega arith) ∙ getD-set-other ix (8 + (512 * p + n)) x at 0 (λ z. omega arith) ∙ w x h
