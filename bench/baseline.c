@@ -3,7 +3,7 @@
  *
  *     baseline <CASES
  *
- * It reads the cases that the program `suite` reads, as second/cases.py describes them, and prints
+ * It reads the cases that the program `suite` reads, as cases/cases.py describes them, and prints
  * the same lines. All tables are static: the limits of the format bound every one of them. A case
  * writes what it goes on to read, so nothing is cleared between cases.
  */

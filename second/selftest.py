@@ -6,15 +6,19 @@ import os
 import sys
 import tempfile
 from collections import Counter
+from pathlib import Path
 from typing import Callable, Iterator, Optional
 
-import encode
-from answer import answer_lines
-from cases import Table, answer_of, decode_cases, encode_case
-from chance import Chance
-from conditions import Aim, draw_clause
-from damage import put
-from execution import (
+ROOT = Path(__file__).resolve().parent.parent
+sys.path[:0] = [str(ROOT / "second"), str(ROOT / "cases")]
+
+import encode  # noqa: E402
+from answer import answer_lines  # noqa: E402
+from cases import Table, answer_of, decode_cases, encode_case  # noqa: E402
+from chance import Chance  # noqa: E402
+from conditions import Aim, draw_clause  # noqa: E402
+from damage import put  # noqa: E402
+from execution import (  # noqa: E402
     Draft,
     add_untimely_message,
     draw_channels,
@@ -22,10 +26,10 @@ from execution import (
     run_of,
     simulate,
 )
-from fixed import fixed_questions
-from fixed_runs import circle_draft, draft_bytes
-from generate import seeded_questions
-from marked import (
+from fixed import fixed_questions  # noqa: E402
+from fixed_runs import circle_draft, draft_bytes  # noqa: E402
+from generate import seeded_questions  # noqa: E402
+from marked import (  # noqa: E402
     NO_CLAUSE,
     marked_conditions,
     marked_wrong_clock,
@@ -35,7 +39,7 @@ from marked import (
     two_desks_cuts,
     two_desks_records,
 )
-from model import (
+from model import (  # noqa: E402
     Clause,
     Run,
     chosen_positions,
@@ -51,10 +55,10 @@ from model import (
     process_to_move,
     stamps_in_transit,
 )
-from named import named_cases
-from questions import Found, Question, consistent, messages, satisfies, search, shown
-from reading import Refusal, judge_run
-from shapes import SHAPES
+from named import named_cases  # noqa: E402
+from questions import Found, Question, consistent, messages, satisfies, search, shown  # noqa: E402
+from reading import Refusal, judge_run  # noqa: E402
+from shapes import SHAPES  # noqa: E402
 
 Outcome = tuple[str, object, object]
 Told = tuple[str, int, int, bool]

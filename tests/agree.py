@@ -13,7 +13,8 @@ from itertools import zip_longest
 from pathlib import Path
 from typing import NamedTuple, Optional
 
-sys.path.insert(0, str(Path(__file__).resolve().parent.parent / "second"))
+ROOT = Path(__file__).resolve().parent.parent
+sys.path[:0] = [str(ROOT / "second"), str(ROOT / "cases")]
 
 from cases import QUESTION_NAMES, decode_cases  # noqa: E402
 

@@ -11,7 +11,7 @@ from pathlib import Path
 from typing import Iterator, NamedTuple
 
 ROOT = Path(__file__).resolve().parent.parent
-sys.path.insert(0, str(ROOT / "second"))
+sys.path[:0] = [str(ROOT / "second"), str(ROOT / "cases")]
 
 import encode  # noqa: E402
 from answer import answer_lines  # noqa: E402

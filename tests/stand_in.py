@@ -12,7 +12,8 @@ import sys
 from pathlib import Path
 from typing import Optional
 
-sys.path.insert(0, str(Path(__file__).resolve().parent.parent / "second"))
+ROOT = Path(__file__).resolve().parent.parent
+sys.path[:0] = [str(ROOT / "second"), str(ROOT / "cases")]
 
 from answer import found_lines, read_file, refused_line  # noqa: E402
 from questions import search  # noqa: E402

@@ -1,6 +1,6 @@
 """Cases with a name and with the answer that the paper gives, written out by hand.
 
-An expected answer never comes from this program's own judging: it stands in a
+An expected answer never comes from the second program's judging: it stands in a
 table beside the case, or follows from where a record was put.
 """
 

@@ -10,13 +10,17 @@ from __future__ import annotations
 import struct
 import sys
 from collections import Counter
+from pathlib import Path
 from typing import Iterator, NamedTuple, Optional
 
-import reading
-from answer import found_lines, refused_line
-from fixed import fixed_questions
-from generate import MOST_LENT, seeded_questions
-from questions import (
+ROOT = Path(__file__).resolve().parent.parent
+sys.path[:0] = [str(ROOT / "second"), str(ROOT / "cases")]
+
+import reading  # noqa: E402
+from answer import found_lines, refused_line  # noqa: E402
+from fixed import fixed_questions  # noqa: E402
+from generate import MOST_LENT, seeded_questions  # noqa: E402
+from questions import (  # noqa: E402
     CONSISTENT,
     MESSAGES,
     SATISFIES,
@@ -29,7 +33,7 @@ from questions import (
     search_refusal,
     shown_bytes,
 )
-from reading import Refusal
+from reading import Refusal  # noqa: E402
 
 MOST_CUT_NUMBERS = 24
 LONGEST_PART = 66_000

@@ -9,16 +9,20 @@ from __future__ import annotations
 
 import sys
 from collections import Counter
+from pathlib import Path
 from typing import Iterator
 
-from named_clauses import named_clauses
-from named_conditions import named_conditions
-from named_cuts import named_cuts
-from named_faults import named_faults
-from named_order import named_order
-from named_pairs import named_pairs
-from named_runs import named_runs
-from naming import Named
+ROOT = Path(__file__).resolve().parent.parent
+sys.path[:0] = [str(ROOT / "second"), str(ROOT / "cases")]
+
+from named_clauses import named_clauses  # noqa: E402
+from named_conditions import named_conditions  # noqa: E402
+from named_cuts import named_cuts  # noqa: E402
+from named_faults import named_faults  # noqa: E402
+from named_order import named_order  # noqa: E402
+from named_pairs import named_pairs  # noqa: E402
+from named_runs import named_runs  # noqa: E402
+from naming import Named  # noqa: E402
 
 
 def named_cases() -> Iterator[Named]:

@@ -25,14 +25,17 @@ import sys
 from pathlib import Path
 from typing import Iterator, NamedTuple
 
-import encode
-from cases import encode_case
-from chance import Chance
-from conditions import Aim, channel_clause, encode_clause
-from damage import get, put
-from execution import LARGEST_MESSAGE, Draft, Execution, Step, run_of, run_records
-from marked import marked_conditions, two_desks
-from model import (
+ROOT = Path(__file__).resolve().parent.parent
+sys.path[:0] = [str(ROOT / "second"), str(ROOT / "cases")]
+
+import encode  # noqa: E402
+from cases import encode_case  # noqa: E402
+from chance import Chance  # noqa: E402
+from conditions import Aim, channel_clause, encode_clause  # noqa: E402
+from damage import get, put  # noqa: E402
+from execution import LARGEST_MESSAGE, Draft, Execution, Step, run_of, run_records  # noqa: E402
+from marked import marked_conditions, two_desks  # noqa: E402
+from model import (  # noqa: E402
     AT_LEAST,
     COUNT_AT_LEAST,
     COUNT_AT_MOST,
@@ -51,8 +54,8 @@ from model import (
     Run,
     stamps_in_transit,
 )
-from questions import SEARCH, Question
-from reading import MOST_CLAUSES, MOST_PROCESSES, MOST_STATES
+from questions import SEARCH, Question  # noqa: E402
+from reading import MOST_CLAUSES, MOST_PROCESSES, MOST_STATES  # noqa: E402
 
 SEED = 1
 
