@@ -1,10 +1,8 @@
 // The lines that the programs print on standard output.
 use checker::Answer;
-use checker::Count;
-use checker::Counts;
-use checker::Verdict;
-use checker::listing::messages_on_each;
 use libc::STDOUT_FILENO;
+use questions::Count;
+use questions::Verdict;
 use record::File;
 use record::Refusal;
 use record::reading::head_of;
@@ -58,7 +56,7 @@ fn lines(word: &[u8], row: &[u16]) {
 }
 
 // How many of the lent places are filled where n numbers were written.
-fn filled(n: u16, places: &[u16]) -> usize
+pub fn filled(n: u16, places: &[u16]) -> usize
     ensures { λ r. ⌜ r ≤ length (now (places .entry)) ⌝ }
 {
     let all = n as usize;
@@ -69,32 +67,20 @@ fn filled(n: u16, places: &[u16]) -> usize
     }
 }
 
-fn channel_lines(run: &[u8], row: &[u16]) {
-    let n = filled(head_of(run).channels, row);
-    lines(b"channel", &row[..n]);
-}
-
-fn channels(run: &[u8], cut: &[u16]) {
-    let mut row = [0u16; 16];
-    let counts = messages_on_each(run, cut, &mut row);
-    match counts {
-        Counts::Listed => channel_lines(run, &row),
-        Counts::Refused(refusal) => refused(refusal),
-    }
-}
-
-fn found(run: &[u8], places: &[u16]) {
-    let n = filled(head_of(run).processes, places);
+fn found(run: &[u8], places: &[u16], row: &[u16]) {
+    let head = head_of(run);
+    let n = filled(head.processes, places);
+    let m = filled(head.channels, row);
     text(b"found\n");
     lines(b"state", &places[..n]);
-    channels(run, &places[..n]);
+    lines(b"channel", &row[..m]);
 }
 
-// The answer of the search, which wrote into these places.
-pub fn answer(run: &[u8], places: &[u16], answer: Answer) {
+// The answer of the search, which wrote the cut into these places, and the number of messages on each channel into this row.
+pub fn answer(run: &[u8], places: &[u16], row: &[u16], answer: Answer) {
     match answer {
-        Answer::Found => found(run, places),
-        Answer::Nowhere => text(b"none\n"),
+        Answer::Found => found(run, places, row),
+        Answer::None => text(b"none\n"),
         Answer::Refused(refusal) => refused(refusal),
     }
 }

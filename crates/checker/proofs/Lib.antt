@@ -1,6 +1,2 @@
-pub mod Parts
-pub mod Cuts
-pub mod Writing
-pub mod Determined
-pub mod Demands
-pub mod Marked
+pub mod Rows
+pub mod Channels

@@ -1,9 +1,10 @@
 -- What the search over raw bytes says, and what it leaves in the lent places.
 use mathlib.Core.Path.{_≡_}
+use mathlib.Core.Logic.{_≢_}
 use mathlib.Core.List.{List}
 use Prim.Native.Nat.{ℕ, _≤_, _<_}
-use lib.ListN.{length, getD}
-use Rattle.model.specs.Cut.{at, ByMessage}
+use lib.ListN.{length}
+use Rattle.model.specs.Cut.{ByMessage}
 use Rattle.model.specs.Clause.{Satisfies, First}
 use Rattle.record.specs.Record.{headOf}
 use Rattle.record.specs.Refusal.{number, refusal}
@@ -12,27 +13,35 @@ use Rattle.record.specs.declared.File.the-variants.{Run}
 use Rattle.record.specs.declared.Refusal.{Refusal}
 use Rattle.run.specs.Said.{runIn}
 use Rattle.judging.specs.Judged.{Judged}
-use Rattle.run.specs.declared.Reading.the-variants as R
-use Rattle.condition.specs.Read.{readOf}
-use Rattle.condition.specs.Read.Verdict.{refused}
-use Rattle.search.specs.Search.{clausesFor}
-use Rattle.checker.specs.Accepted.{RunAccepted, Both}
+use Rattle.judging.specs.Accepted.{RunAccepted}
+use Rattle.run.specs.declared.RunReading.the-variants as R
+use Rattle.condition.specs.Read.{readOf, clausesIn}
+use Rattle.record.specs.Pass.Read.{refused}
+use Rattle.condition.specs.Accepted.{ConditionAccepted}
+use Rattle.cut.specs.Listing.{onEach, Wrote}
 use Rattle.checker.specs.declared.Answer.{Answer}
 use Rattle.checker.specs.declared.Answer.the-variants as A
 
--- the row stands in the first places, and those past it are as they were
-pub record Wrote (row lent lent′ : List ℕ) : Type 0 where
-  pub long : length lent′ ≡ length lent
-  pub front : (i : ℕ) → i < length row → getD lent′ i 0 ≡ at row i
-  pub past : (i : ℕ) → length row ≤ i → getD lent′ i 0 ≡ getD lent i 0
+-- run and condition are both accepted
+pub record Both (s c : List ℕ) : Type 0 where
+  pub run : RunAccepted s
+  pub cond : ConditionAccepted s c
 
 -- in this order: the run is refused, the condition is, the lent places are too few; none, the cut has a receive whose send is past it, found
 pub data Answered (s c lent lent′ : List ℕ) : Answer → Type 0 where
   runRefused : (x : Refusal) → Judged s (R.Refused x) → lent′ ≡ lent → Answered s c lent lent′ (A.Refused x)
   condRefused : (x : Refusal) → RunAccepted s → readOf c (headOf s) ≡ refused x → lent′ ≡ lent → Answered s c lent lent′ (A.Refused x)
   few : Both s c → length lent < headOf s .processes → lent′ ≡ lent → Answered s c lent lent′ (A.Refused (refusal Run (number noRoom) 0))
-  nowhere : Both s c → headOf s .processes ≤ length lent → ((d : List ℕ) → ¬ Satisfies (runIn s) (clausesFor s c) d) → lent′ ≡ lent → Answered s c lent lent′ A.Nowhere
-  tooEarly : Both s c → headOf s .processes ≤ length lent → (cut : List ℕ) → First (runIn s) (clausesFor s c) cut → ¬ ByMessage (runIn s) cut → lent′ ≡ lent
+  none : Both s c → headOf s .processes ≤ length lent → ((d : List ℕ) → ¬ Satisfies (runIn s) (clausesIn c (headOf s)) d) → lent′ ≡ lent → Answered s c lent lent′ A.None
+  tooEarly : Both s c → headOf s .processes ≤ length lent → (cut : List ℕ) → First (runIn s) (clausesIn c (headOf s)) cut → ¬ ByMessage (runIn s) cut → lent′ ≡ lent
       → Answered s c lent lent′ (A.Refused (refusal Run (number early) 0))
-  found : Both s c → headOf s .processes ≤ length lent → (cut : List ℕ) → First (runIn s) (clausesFor s c) cut → ByMessage (runIn s) cut → Wrote cut lent lent′
+  found : Both s c → headOf s .processes ≤ length lent → (cut : List ℕ) → First (runIn s) (clausesIn c (headOf s)) cut → ByMessage (runIn s) cut → Wrote cut lent lent′
       → Answered s c lent lent′ A.Found
+
+-- the search with the channels of the cut that it finds: 15 also where fewer places are lent for these than the run has channels; then nothing changes. Only found writes
+-- into them, how many messages are on each channel at the first cut
+pub data AnsweredListed (s c lent lent′ row row′ : List ℕ) : Answer → Type 0 where
+  fewRow : Both s c → length row < headOf s .channels → lent′ ≡ lent → row′ ≡ row → AnsweredListed s c lent lent′ row row′ (A.Refused (refusal Run (number noRoom) 0))
+  unlisted : (a : Answer) → a ≢ A.Found → (Both s c → headOf s .channels ≤ length row) → Answered s c lent lent′ a → row′ ≡ row → AnsweredListed s c lent lent′ row row′ a
+  listed : headOf s .channels ≤ length row → Answered s c lent lent′ A.Found → (cut : List ℕ) → First (runIn s) (clausesIn c (headOf s)) cut → Wrote (onEach (runIn s) cut) row row′
+      → AnsweredListed s c lent lent′ row row′ A.Found

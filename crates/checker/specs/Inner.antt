@@ -1,14 +1,17 @@
 -- Words of the contracts of the inner functions; the promises don't use them.
 use mathlib.Core.Path.{_≡_}
 use mathlib.Core.List.{List}
-use Prim.Native.Nat.{ℕ}
+use Prim.Native.Nat.{ℕ, _≤_}
+use lib.ListN.{length, replicate}
+use Rattle.model.specs.Run.{processes}
 use Rattle.record.specs.Record.{headOf}
-use Rattle.run.specs.Tables.{Tables}
-use Rattle.condition.specs.Read.{placesIn, readOf}
-use Rattle.checker.specs.Accepted.{Both}
+use Rattle.run.specs.Said.{runIn}
+use Rattle.judging.specs.Accepted.{RunAccepted}
+use Rattle.search.specs.Prepared.{Prepared}
 
--- an accepted run with its index, and an accepted condition with the places of its clauses
-pub record Prepared (s c ix qs : List ℕ) : Type 0 where
-  pub both : Both s c
-  pub tables : Tables s ix
-  pub places : qs ≡ placesIn (readOf c (headOf s))
+-- what the search is given: an accepted run, an accepted condition, a row of ones to move in, and a lent place for each process
+pub record Searching (s c ix qs row lent : List ℕ) : Type 0 where
+  pub accepted : RunAccepted s
+  pub prepared : Prepared s c ix qs
+  pub ones : row ≡ replicate (processes (runIn s)) 1
+  pub room : headOf s .processes ≤ length lent

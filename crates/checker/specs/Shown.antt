@@ -3,9 +3,9 @@ use mathlib.Core.List.{List, []}
 use Prim.Native.Nat.{ℕ}
 use Rattle.reader.specs.Shown.{shownOf}
 use Rattle.checker.specs.declared.Answer.{Answer}
-use Rattle.checker.specs.declared.Answer.the-variants.{Found, Nowhere, Refused}
+use Rattle.checker.specs.declared.Answer.the-variants.{Found, None, Refused}
 
 abbrev pub shownFor : List ℕ → List ℕ → Answer → List ℕ
 shownFor run condition Found = []
-shownFor run condition Nowhere = []
+shownFor run condition None = []
 shownFor run condition (Refused x) = shownOf run condition x

@@ -1,39 +1,25 @@
 // The search over raw bytes: the whole run, the whole condition, room for the cut, and only then the cut.
 use crate::Answer;
-use condition::Reading as ConditionReading;
+use condition::ConditionReading;
 use condition::pass::read_condition;
 use cut::early::has_early;
+use cut::listing::count_each;
+use cut::listing::write;
 use judging::whole::judge_run;
 use record::File;
 use record::Head;
 use record::reasons::EARLY;
 use record::reasons::NO_ROOM;
 use record::reasons::refusal_of;
-use run::Reading;
-use search::Answer as Searched;
+use run::RunReading;
+use search::Outcome;
 use search::eliminate::search;
-ghost use mathlib.Core.Path.{_≡_};
 ghost use Prim.Native.Nat.{_≤_};
-ghost use lib.ListN.{length, replicate};
-ghost use Rattle.model.specs.Run.{processes};
-ghost use Rattle.record.specs.Record.{headOf};
-ghost use Rattle.run.specs.Said.{runIn};
-ghost use Rattle.run.specs.Tables.{Tables};
-ghost use Rattle.checker.specs.Accepted.{RunAccepted};
-ghost use Rattle.checker.specs.Inner.{Prepared};
-ghost use Rattle.checker.specs.Answered.{Wrote, Answered};
-
-// The cut into the first lent places.
-fn write(cut: &[u16], lent: &mut [u16])
-    requires { ⌜ length (now cut) ≤ length (now lent) ⌝ }
-    ensures { λ _. ⌜ Wrote (now (cut .entry)) (now (lent .entry)) (now (lent .exit)) ⌝ }
-{
-    let mut i = 0;
-    while i < cut.len() {
-        lent[i] = cut[i];
-        i += 1;
-    }
-}
+ghost use lib.ListN.{length};
+ghost use Rattle.judging.specs.Told.{Told};
+ghost use Rattle.search.specs.Prepared.{Prepared};
+ghost use Rattle.checker.specs.Answered.{Answered, AnsweredListed};
+ghost use Rattle.checker.specs.Inner.{Searching};
 
 // The cut is sought in a row of its own, so that no lent place changes unless it is found; 18 comes last.
 fn search_in(
@@ -44,12 +30,12 @@ fn search_in(
     cut: &mut [u16],
     lent: &mut [u16],
 ) -> Answer
-    requires { ⌜ Prepared (now run) (now cond) (now index) (now clauses) × (now cut ≡ replicate (processes (runIn (now run))) 1) × (headOf (now run) .processes ≤ length (now lent)) ⌝ }
+    requires { ⌜ Searching (now run) (now cond) (now index) (now clauses) (now cut) (now lent) ⌝ }
     ensures { λ r. ⌜ Answered (now (run .entry)) (now (cond .entry)) (now (lent .entry)) (now (lent .exit)) r ⌝ }
 {
-    let answer = search(run, index, cond, clauses, cut);
-    let Searched::Found = answer else {
-        return Answer::Nowhere;
+    let outcome = search(run, index, cond, clauses, cut);
+    let Outcome::Found = outcome else {
+        return Answer::None;
     };
     if has_early(run, index, cut) {
         return Answer::Refused(refusal_of(File::Run, EARLY, 0));
@@ -64,13 +50,13 @@ fn search_for(
     index: &[u16],
     cond: &[u8],
     clauses: &[u16],
-    n: u16,
+    head: Head,
     lent: &mut [u16],
 ) -> Answer
-    requires { ⌜ Prepared (now run) (now cond) (now index) (now clauses) × (n ≡ headOf (now run) .processes) ⌝ }
+    requires { ⌜ Told (now run) (now index) head × Prepared (now run) (now cond) (now index) (now clauses) ⌝ }
     ensures { λ r. ⌜ Answered (now (run .entry)) (now (cond .entry)) (now (lent .entry)) (now (lent .exit)) r ⌝ }
 {
-    let size = n as usize;
+    let size = head.processes as usize;
     if lent.len() < size {
         return Answer::Refused(refusal_of(File::Run, NO_ROOM, 0));
     }
@@ -80,16 +66,16 @@ fn search_for(
 
 // Beside an accepted run.
 fn with_condition(run: &[u8], index: &[u16], cond: &[u8], head: Head, lent: &mut [u16]) -> Answer
-    requires { ⌜ RunAccepted (now run) × Tables (now run) (now index) × (head ≡ headOf (now run)) ⌝ }
+    requires { ⌜ Told (now run) (now index) head ⌝ }
     ensures { λ r. ⌜ Answered (now (run .entry)) (now (cond .entry)) (now (lent .entry)) (now (lent .exit)) r ⌝ }
 {
     let mut clauses = [0u16; 32];
     let reading = read_condition(cond, head, &mut clauses);
     match reading {
         ConditionReading::Refused(refusal) => Answer::Refused(refusal),
-        ConditionReading::Accepted(k) => {
-            let size = k as usize;
-            search_for(run, index, cond, &clauses[..size], head.processes, lent)
+        ConditionReading::Accepted(count) => {
+            let size = count as usize;
+            search_for(run, index, cond, &clauses[..size], head, lent)
         }
     }
 }
@@ -101,7 +87,58 @@ pub fn first_cut(run: &[u8], cond: &[u8], lent: &mut [u16]) -> Answer
     let mut index = [0u16; 40968];
     let reading = judge_run(run, &mut index);
     match reading {
-        Reading::Refused(refusal) => Answer::Refused(refusal),
-        Reading::Accepted(head) => with_condition(run, &index, cond, head, lent),
+        RunReading::Refused(refusal) => Answer::Refused(refusal),
+        RunReading::Accepted(head) => with_condition(run, &index, cond, head, lent),
+    }
+}
+
+// Beside an accepted run, where there is a place for each channel.
+fn with_channels(
+    run: &[u8],
+    index: &[u16],
+    cond: &[u8],
+    head: Head,
+    lent: &mut [u16],
+    row: &mut [u16],
+) -> Answer
+    requires { ⌜ Told (now run) (now index) head × (head .channels ≤ length (now row)) ⌝ }
+    ensures { λ r. ⌜ AnsweredListed (now (run .entry)) (now (cond .entry)) (now (lent .entry)) (now (lent .exit)) (now (row .entry)) (now (row .exit)) r ⌝ }
+{
+    let answer = with_condition(run, index, cond, head, lent);
+    let Answer::Found = answer else {
+        return answer;
+    };
+    let size = head.processes as usize;
+    count_each(run, index, &lent[..size], head.channels, row);
+    Answer::Found
+}
+
+// The same, where there may be none. With no place lent for the cut either, the answer is the condition's refusal or 15.
+fn listed_for(
+    run: &[u8],
+    index: &[u16],
+    cond: &[u8],
+    head: Head,
+    lent: &mut [u16],
+    row: &mut [u16],
+) -> Answer
+    requires { ⌜ Told (now run) (now index) head ⌝ }
+    ensures { λ r. ⌜ AnsweredListed (now (run .entry)) (now (cond .entry)) (now (lent .entry)) (now (lent .exit)) (now (row .entry)) (now (row .exit)) r ⌝ }
+{
+    if row.len() < head.channels as usize {
+        return with_condition(run, index, cond, head, &mut lent[..0]);
+    }
+    with_channels(run, index, cond, head, lent, row)
+}
+
+// The first cut into the first lent places, and how many messages are on each channel there into a row of others, over one judging.
+pub fn first_cut_listed(run: &[u8], cond: &[u8], lent: &mut [u16], row: &mut [u16]) -> Answer
+    ensures { λ r. ⌜ AnsweredListed (now (run .entry)) (now (cond .entry)) (now (lent .entry)) (now (lent .exit)) (now (row .entry)) (now (row .exit)) r ⌝ }
+{
+    let mut index = [0u16; 40968];
+    let reading = judge_run(run, &mut index);
+    match reading {
+        RunReading::Refused(refusal) => Answer::Refused(refusal),
+        RunReading::Accepted(head) => listed_for(run, &index, cond, head, lent, row),
     }
 }

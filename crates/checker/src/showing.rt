@@ -11,6 +11,6 @@ pub fn shown<'a>(run: &'a [u8], cond: &'a [u8], answer: Answer) -> &'a [u8]
     match answer {
         Answer::Refused(refusal) => refused_bytes(run, cond, refusal),
         Answer::Found => &run[..0],
-        Answer::Nowhere => &run[..0],
+        Answer::None => &run[..0],
     }
 }

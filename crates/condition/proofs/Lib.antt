@@ -1,3 +1,4 @@
 pub mod Laws
 pub mod Accepted
-pub mod Here
+pub mod SoFar
+pub mod Told

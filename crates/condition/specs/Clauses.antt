@@ -1,10 +1,8 @@
 -- What a clause record says: as code holds it, and as a clause of the model.
-use mathlib.Core.Path.{_≡_}
 use mathlib.Core.Bool.{cond}
 use mathlib.Core.List.{List, map}
-use Prim.Native.Nat.{ℕ, _+_, _≤_}
+use Prim.Native.Nat.{ℕ, _+_}
 use lib.Dec.{eqb}
-use lib.ListN.{length}
 use Rattle.model.specs.Clause as M
 use Rattle.model.specs.Clause.Comparison.{equal, other, atMost, atLeast}
 use Rattle.model.specs.Clause.Test.{countAtMost, countAtLeast, countIs, stampIs, noStampIs, everyAtLeast, someAtMost, countOdd, countOther}
@@ -53,14 +51,6 @@ testAt s at = record { channel = u16At s (at + 4); test = u16At s (at + 6); oper
 unfoldable pub heldAt : List ℕ → ℕ → Clause
 heldAt s at = cond (eqb (kindAt s at) 17) (C.Local (localAt s at)) (C.Channel (testAt s at))
 
--- it is there to its end: 14 bytes of a local clause, 12 of a channel clause
-pub record Whole (s : List ℕ) (at : ℕ) : Type 0 where
-  pub body : at + 12 ≤ length s
-  pub local : kindAt s at ≡ 17 → at + 14 ≤ length s
-
-unfoldable pub clauseAt : List ℕ → ℕ → M.Clause
-clauseAt s at = clauseOf (heldAt s at)
-
 -- the clauses whose records stand at these places
 unfoldable pub clausesOf : List ℕ → List ℕ → List M.Clause
-clausesOf s qs = map (clauseAt s) qs
+clausesOf s qs = map (λ at. clauseOf (heldAt s at)) qs

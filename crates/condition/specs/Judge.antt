@@ -5,6 +5,7 @@ use lib.Dec.{ltb, leb, eqb}
 use Rattle.model.specs.declared.Mover.{Mover}
 use Rattle.model.specs.declared.Mover.the-variants.{Sender, Receiver, NotLinear}
 use Rattle.model.specs.Clause.{mover}
+use Rattle.record.specs.Layout.{valueCount}
 use Rattle.record.specs.Refusal.{number, orIf}
 use Rattle.record.specs.Refusal.Reason.{limit, name, field, notLinear}
 use Rattle.record.specs.declared.Head.{Head}
@@ -25,7 +26,7 @@ unfoldable pub localNo : Head → Local → ℕ
 localNo h l =
     orIf (orIf (orIf (orIf 0
     (leb (h .processes) (l .process)) (number name))
-    (ltb 3 (l .value)) (number name))
+    (leb valueCount (l .value)) (number name))
     (eqb (l .comparison) 0) (number field))
     (ltb 4 (l .comparison)) (number field)
 

@@ -1,6 +1,7 @@
 pub mod Clauses
-pub mod Step
+pub mod Items
 pub mod Judge
 pub mod Read
 pub mod Known
 pub mod Inner
+pub mod Accepted

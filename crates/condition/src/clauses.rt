@@ -8,7 +8,8 @@ use record::bytes::u32_at;
 ghost use mathlib.Core.Path.{_≡_};
 ghost use Prim.Native.Nat.{_+_, _≤_};
 ghost use lib.ListN.{length};
-ghost use Rattle.condition.specs.Clauses.{localAt, testAt, heldAt, Whole};
+ghost use Rattle.condition.specs.Clauses.{localAt, testAt, heldAt};
+ghost use Rattle.condition.specs.Known.{Whole};
 
 fn local_at(cond: &[u8], at: usize) -> Local
     requires { ⌜ at + 14 ≤ length (now cond) ⌝ }

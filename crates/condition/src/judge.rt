@@ -6,6 +6,7 @@ use crate::Test;
 use crate::movers::who_moves;
 use model::Mover;
 use record::Head;
+use record::layout::VALUE_COUNT;
 use record::reasons::FIELD;
 use record::reasons::LIMIT;
 use record::reasons::NAME;
@@ -26,7 +27,7 @@ pub fn local_no(head: Head, l: Local) -> u16
     ensures { λ r. ⌜ r ≡ localNo head l ⌝ }
 {
     let number = or_if(0, head.processes <= l.process, NAME);
-    let number = or_if(number, 3 < l.value, NAME);
+    let number = or_if(number, VALUE_COUNT <= l.value, NAME);
     let number = or_if(number, l.comparison == 0, FIELD);
     or_if(number, 4 < l.comparison, FIELD)
 }

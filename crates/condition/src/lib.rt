@@ -1,9 +1,10 @@
-// The judging of a condition beside an accepted run's head. `steps` has the reading step, `judge` the tests of one record, `movers` who has to move, `pass` goes over all records, `clauses` says what stands in a clause record.
+// The judging of a condition beside an accepted run's head. `reading` has the reading step, `judge` the tests of one record, `movers` who has
+// to move, `pass` goes over all records, `clauses` says what stands in a clause record.
 pub mod clauses;
 pub mod judge;
 pub mod movers;
 pub mod pass;
-pub mod steps;
+pub mod reading;
 
 use record::Refusal;
 
@@ -35,13 +36,13 @@ pub enum Item {
 }
 
 // A record of a condition with the place after it, or else the refusal.
-pub enum Step {
+pub enum ConditionStep {
     Got(Item, usize),
     Refused(Refusal),
 }
 
 // What the pass gives: the number of clauses of a condition that it accepts, or the first refusal.
-pub enum Reading {
+pub enum ConditionReading {
     Accepted(u16),
     Refused(Refusal),
 }

@@ -1,9 +1,9 @@
 // The pass over a condition's records, and the places of its clauses.
+use crate::ConditionReading;
+use crate::ConditionStep;
 use crate::Item;
-use crate::Reading;
-use crate::Step;
 use crate::judge::judge_no;
-use crate::steps::step;
+use crate::reading::step;
 use record::File;
 use record::Head;
 use record::Refusal;
@@ -11,19 +11,19 @@ use record::reasons::KIND;
 use record::reasons::TOO_LONG;
 use record::reasons::refusal_of;
 ghost use mathlib.Core.Path.{_≡_};
-ghost use mathlib.Core.List.{[]};
-ghost use Prim.Native.Nat.{suc, _≤_};
+ghost use Prim.Native.Nat.{_≤_};
 ghost use lib.ListN.{length};
-ghost use Rattle.condition.specs.Read.{isEnd, owing, readFrom, readOf, Passed};
-ghost use Rattle.condition.specs.Inner.{handUp, EndsAs, Roomy, Noted};
+ghost use Rattle.record.specs.Inner.{readRecords};
+ghost use Rattle.condition.specs.Read.{isEnd, owing, conditionPass, readOf};
+ghost use Rattle.condition.specs.Inner.{handUp, EndsAs, ClauseRoomy, ClauseNoted, ConditionPassed};
 
 // The refusal that a step gave, as the pass's answer. (A step that gave a record is never handed up.)
-fn hand_up(step: Step) -> Reading
+fn hand_up(step: ConditionStep) -> ConditionReading
     ensures { λ r. ⌜ r ≡ handUp step ⌝ }
 {
     match step {
-        Step::Refused(refusal) => Reading::Refused(refusal),
-        Step::Got(_, _) => Reading::Refused(refusal_of(File::Condition, 0, 0)),
+        ConditionStep::Refused(refusal) => ConditionReading::Refused(refusal),
+        ConditionStep::Got(_, _) => ConditionReading::Refused(refusal_of(File::Condition, 0, 0)),
     }
 }
 
@@ -38,23 +38,23 @@ fn is_end(item: Item) -> bool
 }
 
 // Behind the end record nothing may follow.
-fn end_of(cond: &[u8], next: usize, count: u16) -> Reading
+fn end_of(cond: &[u8], next: usize, count: u16) -> ConditionReading
     ensures { λ r. ⌜ EndsAs (now (cond .entry)) next count r ⌝ }
 {
     if next < cond.len() {
-        return Reading::Refused(Refusal {
+        return ConditionReading::Refused(Refusal {
             file: File::Condition,
             number: KIND,
             place: next,
             after: true,
         });
     }
-    Reading::Accepted(count)
+    ConditionReading::Accepted(count)
 }
 
 // How many clauses are owed behind a record.
 fn owed_behind(item: Item, owed: u16, count: u16) -> u16
-    requires { ⌜ Roomy item owed count ⌝ }
+    requires { ⌜ ClauseRoomy item owed count ⌝ }
     ensures { λ r. ⌜ r ≡ owing item owed ⌝ }
 {
     match item {
@@ -66,8 +66,8 @@ fn owed_behind(item: Item, owed: u16, count: u16) -> u16
 
 // A clause's place is kept, and the clauses are counted; of any other record nothing is.
 fn note(places: &mut [u16], item: Item, owed: u16, count: u16, at: usize) -> u16
-    requires { ⌜ (length (now places) ≡ 32) × Roomy item owed count × (at ≤ 65535) ⌝ }
-    ensures { λ r. ⌜ Noted item at count (now (places .entry)) r (now (places .exit)) ⌝ }
+    requires { ⌜ (length (now places) ≡ 32) × ClauseRoomy item owed count × (at ≤ 65535) ⌝ }
+    ensures { λ r. ⌜ ClauseNoted item at count (now (places .entry)) r (now (places .exit)) ⌝ }
 {
     match item {
         Item::Head(_) => count,
@@ -80,21 +80,21 @@ fn note(places: &mut [u16], item: Item, owed: u16, count: u16, at: usize) -> u16
 }
 
 // Record by record from the front.
-fn read_records(cond: &[u8], head: Head, places: &mut [u16]) -> Reading
+fn read_records(cond: &[u8], head: Head, places: &mut [u16]) -> ConditionReading
     requires { ⌜ (length (now cond) ≤ 65535) × (length (now places) ≡ 32) ⌝ }
-    ensures { λ r. ⌜ Passed (readFrom (suc (length (now (cond .entry)))) (now (cond .entry)) head 0 0 []) r (now (places .exit)) ⌝ }
+    ensures { λ r. ⌜ ConditionPassed (readRecords (conditionPass (now (cond .entry)) head)) r (now (places .exit)) ⌝ }
 {
     let mut at: usize = 0;
     let mut owed: u16 = 0;
     let mut count: u16 = 0;
     loop {
         let step = step(cond, at, owed);
-        let Step::Got(item, next) = step else {
+        let ConditionStep::Got(item, next) = step else {
             break hand_up(step);
         };
         let number = judge_no(head, item);
         if number != 0 {
-            break Reading::Refused(refusal_of(File::Condition, number, at));
+            break ConditionReading::Refused(refusal_of(File::Condition, number, at));
         }
         if is_end(item) {
             break end_of(cond, next, count);
@@ -107,12 +107,12 @@ fn read_records(cond: &[u8], head: Head, places: &mut [u16]) -> Reading
 }
 
 // The whole pass beside the head of an accepted run: the number of clauses with the place of each in the lent row, or the first refusal with its place.
-pub fn read_condition(cond: &[u8], head: Head, places: &mut [u16]) -> Reading
+pub fn read_condition(cond: &[u8], head: Head, places: &mut [u16]) -> ConditionReading
     requires { ⌜ length (now places) ≡ 32 ⌝ }
-    ensures { λ r. ⌜ Passed (readOf (now (cond .entry)) head) r (now (places .exit)) ⌝ }
+    ensures { λ r. ⌜ ConditionPassed (readOf (now (cond .entry)) head) r (now (places .exit)) ⌝ }
 {
     if 65535 < cond.len() {
-        return Reading::Refused(refusal_of(File::Condition, TOO_LONG, 0));
+        return ConditionReading::Refused(refusal_of(File::Condition, TOO_LONG, 0));
     }
     read_records(cond, head, places)
 }

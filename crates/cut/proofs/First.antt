@@ -4,11 +4,12 @@ use mathlib.Core.Logic.{⊎-elim}
 use Prim.Native.Nat.{ℕ, zero, suc, _+_, _-_, _≤_, _<_}
 use native.Mathlib.Nat.{eq-or-lt-of-le}
 use native.Mathlib.Omega.{arith}
-use Rattle.cut.specs.declared.Behind.{Behind}
-use Rattle.cut.specs.declared.Behind.the-variants.{Nobody, Process}
+use Rattle.model.proofs.Numbers.{never}
+use Rattle.cut.specs.declared.HasToMove.{HasToMove}
+use Rattle.cut.specs.declared.HasToMove.the-variants.{Nobody, Process}
 use Rattle.cut.specs.Clocks.{orNext, firstFrom}
 
-module _ (f : ℕ → Behind) where
+module _ (f : ℕ → HasToMove) where
   -- what is left of n from k on
   pub first-turn : (n k : ℕ) → k < n → f k ≡ Nobody → firstFrom f (n - k) k ≡ firstFrom f (n - (k + 1)) (k + 1)
   unfolding firstFrom
@@ -31,18 +32,18 @@ module _ (f : ℕ → Behind) where
   first-nobody zero k e i p q = absurd (omega arith)
   first-nobody (suc n) k e i p q = go (f k) refl e (first-nobody n (suc k))
     where
-      go : (v : Behind) → f k ≡ v → orNext v (firstFrom f n (suc k)) ≡ Nobody
+      go : (v : HasToMove) → f k ≡ v → orNext v (firstFrom f n (suc k)) ≡ Nobody
           → (firstFrom f n (suc k) ≡ Nobody → (i : ℕ) → suc k ≤ i → i < suc k + n → f i ≡ Nobody) → f i ≡ Nobody
       go Nobody a e rest = ⊎-elim (λ z. ap f (sym z) ∙ a) (λ z. rest e i z (omega arith)) (eq-or-lt-of-le p)
-      go (Process x) a e rest = absurd (let z : _≡_ {A = ℕ} 0 1 = cc in omega arith)
+      go (Process x) a e rest = never (cc)
 
   -- somebody is found: f names it
   pub first-found : (n k p : ℕ) → firstFrom f n k ≡ Process p → (i : ℕ) × (k ≤ i) × (i < k + n) × (f i ≡ Process p)
   unfolding firstFrom
-  first-found zero k p e = absurd (let z : _≡_ {A = ℕ} 0 1 = cc in omega arith)
+  first-found zero k p e = never (cc)
   first-found (suc n) k p e = go (f k) refl e (first-found n (suc k) p)
     where
-      go : (v : Behind) → f k ≡ v → orNext v (firstFrom f n (suc k)) ≡ Process p
+      go : (v : HasToMove) → f k ≡ v → orNext v (firstFrom f n (suc k)) ≡ Process p
           → (firstFrom f n (suc k) ≡ Process p → (i : ℕ) × (suc k ≤ i) × (i < suc k + n) × (f i ≡ Process p)) → (i : ℕ) × (k ≤ i) × (i < k + suc n) × (f i ≡ Process p)
       go Nobody a e rest = let (i, x, y, z) = rest e in (i, omega arith, omega arith, z)
       go (Process x) a e rest = (k, omega arith, omega arith, a ∙ e)

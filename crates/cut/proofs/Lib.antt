@@ -1,7 +1,9 @@
 pub mod Signs
 pub mod Stored
-pub mod Waiting
+pub mod Partner
+pub mod Between
 pub mod Passed
+pub mod Writing
 pub mod First
 pub mod Low
 pub mod Received

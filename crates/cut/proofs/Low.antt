@@ -8,13 +8,15 @@ use native.Mathlib.Omega.{arith}
 use borrow.Author.Tests.{eqb-false, ne-eqb, leb-true, le-leb}
 use lib.Dec.{eqb, leb}
 use lib.ListN.{length}
+use Rattle.model.proofs.Numbers.{never}
 use Rattle.model.specs.Run.{Run}
-use Rattle.model.specs.Cut.{at, IsCut, Clocks, ByClock, Consistent}
+use Rattle.model.specs.Cut.{at, IsCut, Consistent}
+use Rattle.model.specs.Clocks.{Clocks, ByClock}
 use Rattle.model.proofs.Lists.{le-or-lt}
 use Rattle.model.proofs.Order.{consistent-by-clock}
 use Rattle.run.specs.Said.{runIn}
-use Rattle.run.specs.Tables.{Tables}
-use Rattle.cut.specs.declared.Behind.the-variants.{Nobody, Process}
+use Rattle.run.specs.Index.{IndexHolds}
+use Rattle.cut.specs.declared.HasToMove.the-variants.{Nobody, Process}
 use Rattle.cut.specs.Clocks.{ifBehind, behindOf, tooLow, InTable}
 use Rattle.cut.proofs.First.{first-nobody, first-found}
 use Rattle.cut.proofs.Stored.{processes-few, states-few}
@@ -36,8 +38,8 @@ module _ (clock : ℕ → ℕ → ℕ → ℕ) (cut : List ℕ) where
     where
       one : (k : ℕ) → k < length cut → (j : ℕ) → j < length cut → (x : Bool) → eqb k j ≡ x → (y : Bool) → leb (at cut k) (clock j (at cut j) k) ≡ y
           → cond (not x && y) (Process k) Nobody ≡ Process i → Low i j
-      one k h j q true a y b g = absurd (let z : _≡_ {A = ℕ} 0 1 = cc in omega arith)
-      one k h j q false a false b g = absurd (let z : _≡_ {A = ℕ} 0 1 = cc in omega arith)
+      one k h j q true a y b g = never (cc)
+      one k h j q false a false b g = never (cc)
       one k h j q false a true b g =
           let same : k ≡ i = cc in
           rw (← same) (record { process = h; other = q; apart = eqb-false k j a; low = leb-true _ _ b })
@@ -50,8 +52,8 @@ module _ (clock : ℕ → ℕ → ℕ → ℕ) (cut : List ℕ) where
       ⊎-elim (λ h. absurd (clash (not (eqb i j) && leb (at cut i) (clock j (at cut j) i)) (simp (ne-eqb i j n) (le-leb (at cut i) (clock j (at cut j) i) h)) b)) (λ h. h) (le-or-lt (at cut i) (clock j (at cut j) i))
     where
       clash : (t : Bool) → t ≡ true → cond t (Process i) Nobody ≡ Nobody → ⊥
-      clash true e g = let z : _≡_ {A = ℕ} 0 1 = cc in omega arith
-      clash false e g = let z : _≡_ {A = ℕ} 0 1 = cc in omega arith
+      clash true e g = never (cc)
+      clash false e g = never (cc)
 
   -- nobody is found exactly where the cut is consistent
   module _ (r : Run) (rule : Clocks r clock) (is : IsCut r cut) where
@@ -70,7 +72,7 @@ module _ (clock : ℕ → ℕ → ℕ → ℕ) (cut : List ℕ) where
         omega (arith, w .low)
 
 -- a cut of an accepted run has its entries in the index
-pub cut-in-table : {s ix : List ℕ} → Tables s ix → (cut : List ℕ) → IsCut (runIn s) cut → InTable cut
+pub cut-in-table : {s ix : List ℕ} → IndexHolds s ix → (cut : List ℕ) → IsCut (runIn s) cut → InTable cut
 cut-in-table w cut is = record {
   few = omega (arith, is .size, processes-few w);
   counted = λ j h. is .states j (omega (arith, is .size)) .counted;

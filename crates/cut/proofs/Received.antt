@@ -9,12 +9,14 @@ use native.Mathlib.Omega.{arith}
 use borrow.Author.Tests.{ltb-true, ltb-false}
 use lib.Dec.{ltb}
 use lib.ListN.{length, getD}
+use Rattle.model.proofs.Numbers.{never}
 use Rattle.model.specs.declared.Message.{Message}
 use Rattle.model.specs.declared.Event.the-variants.{Receive}
-use Rattle.model.specs.Run.{Run, into, channel, IsState, Known}
+use Rattle.model.specs.Run.{Run, into, channel, IsState}
+use Rattle.model.specs.Known.{Known}
 use Rattle.model.specs.Cut.{at, IsCut, ByMessage}
 use Rattle.model.proofs.Pairing.{view, from-end, one-send, received-there, process-there}
-use Rattle.run.specs.Tables.{partnerAt, Partnered}
+use Rattle.run.specs.Index.{partnerAt, Partnered}
 use Rattle.cut.specs.Early.{InTime, PastIs, EarlyInIs, EarlyIs}
 
 -- ---- one state
@@ -22,7 +24,7 @@ use Rattle.cut.specs.Early.{InTime, PastIs, EarlyInIs, EarlyIs}
 module _ (r : Run) (cut : List ℕ) (p k : ℕ) where
   pub past-no : ((m : Message) → into r p k ≢ Receive m) → PastIs r cut p k false
   unfolding InTime
-  past-no n = record { past = λ e. absurd (let z : _≡_ {A = ℕ} 0 1 = cc in omega arith); in-time = λ e m g. absurd (n m g) }
+  past-no n = record { past = λ e. never (cc); in-time = λ e m g. absurd (n m g) }
 
   -- its partner is the state that the send leads into, and the channel says of which process
   pub past-receive : Known r → (ns : List ℕ) → Partnered r ns → (m : Message) → into r p k ≡ Receive m → (f : ℕ) → f ≡ channel r (m .channel) .from
@@ -59,10 +61,10 @@ module _ (r : Run) (cut : List ℕ) (p : ℕ) where
 
   pub early-in-here : (k : ℕ) → k ≤ at cut p → ¬ InTime r cut p k → EarlyInIs r cut p true
   unfolding ByMessage InTime
-  early-in-here k h n = record { early = λ z b. n (λ m e. b p k m h e); none = λ z. absurd (let z : _≡_ {A = ℕ} 0 1 = cc in omega arith) }
+  early-in-here k h n = record { early = λ z b. n (λ m e. b p k m h e); none = λ z. never (cc) }
 
   pub early-in-none : (k : ℕ) → at cut p < k → ((l : ℕ) → l < k → InTime r cut p l) → EarlyInIs r cut p false
-  early-in-none k h w = record { early = λ z. absurd (let z : _≡_ {A = ℕ} 0 1 = cc in omega arith); none = λ z l g. w l (omega arith) }
+  early-in-none k h w = record { early = λ z. never (cc); none = λ z l g. w l (omega arith) }
 
 -- ---- every process
 
@@ -77,11 +79,11 @@ module _ (r : Run) (cut : List ℕ) where
       less h = omega arith
 
   pub early-here : ¬ ByMessage r cut → EarlyIs r cut true
-  early-here n = record { early = λ z. n; none = λ z. absurd (let z : _≡_ {A = ℕ} 0 1 = cc in omega arith) }
+  early-here n = record { early = λ z. n; none = λ z. never (cc) }
 
   pub early-none : IsCut r cut → (n : ℕ) → length cut ≤ n → InTimeBelow n → EarlyIs r cut false
   unfolding ByMessage InTime
   early-none c n h w = record {
-    early = λ z. absurd (let z : _≡_ {A = ℕ} 0 1 = cc in omega arith);
+    early = λ z. never (cc);
     none = λ z j l m g e. w j (omega (arith, process-there (received-there e), c .size)) l g m e;
   }

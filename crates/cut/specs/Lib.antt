@@ -1,3 +1,6 @@
-pub mod Tally
+pub mod Asked
+pub mod Waiting
+pub mod ChannelTests
 pub mod Clocks
 pub mod Early
+pub mod Listing

@@ -2,17 +2,17 @@
 use model::Event;
 use run::index::event_at;
 use run::index::partner_of;
-use run::states::channel_at;
+use states::held::channel_at;
 ghost use Prim.Native.Nat.{_<_};
 ghost use Rattle.model.specs.Run.{IsState, processes};
 ghost use Rattle.model.specs.Cut.{IsCut};
 ghost use Rattle.run.specs.Said.{runIn};
-ghost use Rattle.run.specs.Tables.{Tables};
+ghost use Rattle.run.specs.Index.{IndexHolds};
 ghost use Rattle.cut.specs.Early.{PastIs, EarlyInIs, EarlyIs};
 
 // Whether state k of process p receives what is sent past the cut. The partner of a receive is the state that the send leads into.
 fn sent_past(run: &[u8], index: &[u16], cut: &[u16], p: u16, k: u16) -> bool
-    requires { ⌜ Tables (now run) (now index) × IsCut (runIn (now run)) (now cut) × IsState (runIn (now run)) p k ⌝ }
+    requires { ⌜ IndexHolds (now run) (now index) × IsCut (runIn (now run)) (now cut) × IsState (runIn (now run)) p k ⌝ }
     ensures { λ r. ⌜ PastIs (runIn (now (run .entry))) (now (cut .entry)) p k r ⌝ }
 {
     let event = event_at(run, index, p, k);
@@ -29,7 +29,7 @@ fn sent_past(run: &[u8], index: &[u16], cut: &[u16], p: u16, k: u16) -> bool
 
 // Whether one of states 1 to cut[p] of process p does.
 fn early_in(run: &[u8], index: &[u16], cut: &[u16], p: u16) -> bool
-    requires { ⌜ Tables (now run) (now index) × IsCut (runIn (now run)) (now cut) × (p < processes (runIn (now run))) ⌝ }
+    requires { ⌜ IndexHolds (now run) (now index) × IsCut (runIn (now run)) (now cut) × (p < processes (runIn (now run))) ⌝ }
     ensures { λ r. ⌜ EarlyInIs (runIn (now (run .entry))) (now (cut .entry)) p r ⌝ }
 {
     let row = p as usize;
@@ -46,7 +46,7 @@ fn early_in(run: &[u8], index: &[u16], cut: &[u16], p: u16) -> bool
 
 // Whether one of any process does.
 pub fn has_early(run: &[u8], index: &[u16], cut: &[u16]) -> bool
-    requires { ⌜ Tables (now run) (now index) × IsCut (runIn (now run)) (now cut) ⌝ }
+    requires { ⌜ IndexHolds (now run) (now index) × IsCut (runIn (now run)) (now cut) ⌝ }
     ensures { λ r. ⌜ EarlyIs (runIn (now (run .entry))) (now (cut .entry)) r ⌝ }
 {
     let mut p: usize = 0;

@@ -1,19 +1,31 @@
-// At a cut of an accepted run: who is behind another's clock, what is in transit on a channel, and whether a clause holds. Every answer comes from the index.
+// At a cut of an accepted run: is it a cut, is it consistent, what is in transit on a channel, does a clause hold. Every answer comes from the index.
+pub mod channel_tests;
+pub mod choice;
 pub mod clocks;
 pub mod compare;
 pub mod early;
+pub mod listing;
 pub mod local;
-pub mod tests;
 pub mod transit;
 
-// How many messages are in transit, and how many of them have a stamp that compares.
-pub struct Tally {
-    pub count: usize,
-    pub matching: usize,
+use model::Message;
+
+// What a state has in transit on a channel.
+pub enum Waiting {
+    Nothing,
+    One(Message),
 }
 
-// Whom the clock test finds.
-pub enum Behind {
+// Where the messages of a channel are looked for at a cut: how far its sender is, and how far its receiver.
+pub struct Span {
+    pub channel: u16,
+    pub from: u16,
+    pub sent: u16,
+    pub received: u16,
+}
+
+// Who has to move: whom the clocks find behind, or whom a false clause names.
+pub enum HasToMove {
     Nobody,
     Process(usize),
 }

@@ -1,103 +1,91 @@
-// What is in transit on a channel: the messages sent up to a state of its sender and not received up to a state of its receiver.
-use crate::Tally;
-use crate::compare::compares;
-use crate::tests::comparison_for;
+// What is in transit on a channel at a cut: the messages sent up to it and not received up to it.
+use crate::Span;
+use crate::Waiting;
 use model::Event;
-use record::bytes::signed_of;
+use run::index::event_at;
 use run::index::partner_of;
-use run::index::place_of;
-use run::states::state_at;
+use states::held::channel_at;
 ghost use mathlib.Core.Path.{_≡_};
 ghost use mathlib.Core.List.{[]};
-ghost use Prim.Native.Nat.{_+_, _≤_, _<_};
+ghost use Prim.Native.Nat.{_≤_, _<_};
 ghost use lib.ListN.{length};
-ghost use Rattle.model.specs.Run as Run;
-ghost use Rattle.model.specs.Run.{count, sending};
-ghost use Rattle.model.specs.Cut.{add, onChannel, between};
-ghost use Rattle.record.specs.Record.{fieldsAt};
-ghost use Rattle.run.specs.States.{eventOf};
-ghost use Rattle.run.specs.Said.{runIn};
-ghost use Rattle.run.specs.Tables.{Tables};
-ghost use Rattle.condition.specs.Clauses.{comparisonOf};
-ghost use Rattle.cut.specs.Tally.{stamped, tallyOf, asked};
+ghost use Rattle.model.specs.Run.{IsState, sending};
+ghost use Rattle.model.specs.Cut.{IsCut, add, onChannel, waiting, inTransit};
+ghost use Rattle.record.specs.Record.{headOf};
+ghost use Rattle.run.specs.Read.{readOf};
+ghost use Rattle.record.specs.Pass.Read.{accepted};
+ghost use Rattle.run.specs.Said.{statesOf, runIn};
+ghost use Rattle.run.specs.Index.{IndexHolds};
+ghost use Rattle.cut.specs.Waiting.{asHeld, inside, spanOf, OfChannel};
+ghost use Rattle.cut.specs.Asked.{Asked};
 
-// What the state at a place sends on a channel, which is at most one message.
-fn sent_at(run: &[u8], place: usize, channel: u16, comparison: u16, x: i32) -> Tally
-    requires { ⌜ place + 18 ≤ length (now run) ⌝ }
-    ensures { λ r. ⌜ (r ≡ tallyOf (stamped (comparisonOf comparison) x) (add (onChannel channel (sending (eventOf (fieldsAt (now (run .entry)) place)))) [])) × (r .count ≤ 1) × (r .matching ≤ 1) ⌝ }
+// The message that an event sends on the channel.
+fn sent_on(channel: u16, event: Event) -> Waiting
+    ensures { λ r. ⌜ r ≡ asHeld (onChannel channel (sending event)) ⌝ }
 {
-    let event = state_at(run, place).event;
-    let Event::Send(message) = event else {
-        return Tally {
-            count: 0,
-            matching: 0,
-        };
-    };
-    if message.channel != channel {
-        return Tally {
-            count: 0,
-            matching: 0,
-        };
-    }
-    let stamp = message.stamp;
-    if compares(comparison, stamp, x) {
-        return Tally {
-            count: 1,
-            matching: 1,
-        };
-    }
-    Tally {
-        count: 1,
-        matching: 0,
+    match event {
+        Event::Start => Waiting::Nothing,
+        Event::Internal => Waiting::Nothing,
+        Event::Send(message) => if message.channel == channel {
+            Waiting::One(message)
+        } else {
+            Waiting::Nothing
+        },
+        Event::Receive(_) => Waiting::Nothing,
     }
 }
 
-// The messages on the channel, sent up to state a of its sender and not received up to state b of its receiver: how many, and how many with a stamp that compares with x.
-// A send whose partner is 0 is received nowhere, and one whose partner is past b only later.
-pub fn tally(
-    run: &[u8],
-    index: &[u16],
-    channel: u16,
-    from: u16,
-    a: u16,
-    b: u16,
-    comparison: u16,
-    x: i32,
-) -> Tally
-    requires { ⌜ Tables (now run) (now index) × (from ≡ Run.channel (runIn (now run)) channel .from) × (a ≤ count (runIn (now run)) from) ⌝ }
-    ensures { λ r. ⌜ r ≡ tallyOf (stamped (comparisonOf comparison) x) (between (runIn (now (run .entry))) channel a b) ⌝ }
+// How far the ends of a channel are at a cut.
+pub fn span_of(run: &[u8], cut: &[u16], channel: u16) -> Span
+    requires { ⌜ (readOf (now run) ≡ accepted (statesOf (now run))) × IsCut (runIn (now run)) (now cut) × (channel < headOf (now run) .channels) ⌝ }
+    ensures { λ r. ⌜ r ≡ spanOf (runIn (now (run .entry))) (now (cut .entry)) channel ⌝ }
 {
+    let ends = channel_at(run, channel);
+    let from = ends.from as usize;
+    let to = ends.to as usize;
+    let sent = cut[from];
+    let received = cut[to];
+    Span {
+        channel,
+        from: ends.from,
+        sent,
+        received,
+    }
+}
+
+// What state k of the channel's sender has in transit. A send whose partner is 0 is received nowhere, and one whose partner is past the receiver's
+// state only later.
+pub fn waits(run: &[u8], index: &[u16], span: Span, k: u16) -> Waiting
+    requires { ⌜ IndexHolds (now run) (now index) × OfChannel (runIn (now run)) span × IsState (runIn (now run)) (span .from) k ⌝ }
+    ensures { λ r. ⌜ r ≡ asHeld (waiting (runIn (now (run .entry))) (span .channel) (span .received) k) ⌝ }
+{
+    let partner = partner_of(index, span.from, k);
+    if (partner == 0) | (span.received < partner) {
+        return sent_on(span.channel, event_at(run, index, span.from, k));
+    }
+    Waiting::Nothing
+}
+
+fn counted(waiting: Waiting) -> usize
+    ensures { λ r. ⌜ (r ≡ length (add (inside waiting) [])) × (r ≤ 1) ⌝ }
+{
+    match waiting {
+        Waiting::Nothing => 0,
+        Waiting::One(_) => 1,
+    }
+}
+
+// How many messages are on a channel at the cut, consistent or not.
+pub fn count_on(run: &[u8], index: &[u16], cut: &[u16], channel: u16) -> usize
+    requires { ⌜ Asked (now run) (now index) (now cut) channel ⌝ }
+    ensures { λ r. ⌜ (r ≡ length (inTransit (runIn (now (run .entry))) (now (cut .entry)) channel)) × (r ≤ 512) ⌝ }
+{
+    let span = span_of(run, cut, channel);
     let mut count: usize = 0;
-    let mut matching: usize = 0;
     let mut k: u16 = 0;
-    while k < a {
-        let partner = partner_of(index, from, k + 1);
-        if (partner == 0) | (b < partner) {
-            let place = place_of(index, from, k + 1);
-            let more = sent_at(run, place, channel, comparison, x);
-            count += more.count;
-            matching += more.matching;
-        }
+    while k < span.sent {
+        count += counted(waits(run, index, span, k + 1));
         k += 1;
     }
-    Tally { count, matching }
-}
-
-// The tally that a channel test asks for.
-pub fn tally_for(
-    run: &[u8],
-    index: &[u16],
-    channel: u16,
-    from: u16,
-    a: u16,
-    b: u16,
-    test: u16,
-    operand: u32,
-) -> Tally
-    requires { ⌜ Tables (now run) (now index) × (from ≡ Run.channel (runIn (now run)) channel .from) × (a ≤ count (runIn (now run)) from) ⌝ }
-    ensures { λ r. ⌜ r ≡ tallyOf (asked test operand) (between (runIn (now (run .entry))) channel a b) ⌝ }
-{
-    let comparison = comparison_for(test);
-    let x = signed_of(operand);
-    tally(run, index, channel, from, a, b, comparison, x)
+    count
 }

@@ -64,8 +64,9 @@ fn read_named(word: usize, name: &[u8], buffer: &mut [u8]) -> Got
 
 fn judge(run: &[u8], cond: &[u8]) {
     let mut places = [0u16; 8];
-    let answer = checker::finding::first_cut(run, cond, &mut places);
-    answers::answer(run, &places, answer);
+    let mut row = [0u16; 16];
+    let answer = checker::finding::first_cut_listed(run, cond, &mut places, &mut row);
+    answers::answer(run, &places, &row, answer);
 }
 
 // One byte more than a file may have, so that a longer one is seen to be too long.

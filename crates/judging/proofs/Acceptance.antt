@@ -5,31 +5,34 @@ use mathlib.Core.List.{List}
 use Prim.Native.Nat.{ℕ}
 use native.Mathlib.Omega.{arith}
 use lib.Dec.{T}
+use Rattle.model.proofs.Numbers.{never}
 use Rattle.model.specs.declared.Message.{Message}
 use Rattle.model.specs.declared.Event.the-variants.{Receive}
-use Rattle.model.specs.Run.{Run, count, channel, into, IsState, sending, receiving, paired, Paired, Known}
+use Rattle.model.specs.Run.{Run, count, channel, into, IsState, sending, receiving, paired, Paired}
+use Rattle.model.specs.Known.{Known}
 use Rattle.model.specs.Cut.{someUpTo}
 use Rattle.model.proofs.Lists.{some-at, at-some}
 use Rattle.model.proofs.Pairing.{view, from-side, sent-there, received-there}
 use Rattle.model.proofs.Messages.{sending-send, receiving-receive}
 use Rattle.record.specs.declared.Head.{Head}
-use Rattle.run.specs.declared.Reading.{Reading}
-use Rattle.run.specs.declared.Reading.the-variants.{Accepted}
+use Rattle.run.specs.declared.RunReading.{RunReading}
+use Rattle.run.specs.declared.RunReading.the-variants.{Accepted}
 use Rattle.run.specs.Read.{readOf}
-use Rattle.run.specs.Read.Verdict.{accepted}
+use Rattle.record.specs.Pass.Read.{accepted}
 use Rattle.run.specs.Said.{statesOf, runIn}
-use Rattle.judging.specs.Judged.{Judged, Unpaired, Nowhere}
+use Rattle.judging.specs.Judged.{Judged, Unpaired, Faultless}
 use Rattle.judging.specs.Judged.Judged.{byPass, byPairing, byCircle, byClock, wholly}
 use Rattle.judging.specs.Judged.Unpaired.{secondSend, secondReceive, noSend}
 use Rattle.judging.specs.Pairing.{Clear}
 use Rattle.run.proofs.Listed.{sides, place-rises}
-use Rattle.judging.proofs.Verdicts.{same-parts, clear-paired, clear-known}
+use Rattle.judging.proofs.Pairs.{same-parts}
+use Rattle.judging.proofs.Verdicts.{clear-paired, clear-known}
 
 module _ (s : List ℕ) (read : readOf s ≡ accepted (statesOf s)) where
   abbrev r : Run
   r = runIn s
 
-  module _ (none : Nowhere s (Unpaired s)) where
+  module _ (none : Faultless s (Unpaired s)) where
     -- the sender of the channel has the send, or else no process has
     has-send : (p k : ℕ) → IsState r p k → (m : Message) → into r p k ≡ Receive m → (i : ℕ) × (l : ℕ) × Paired r i l p k
     has-send p k t m e = go (someUpTo f (count r from)) refl
@@ -45,7 +48,7 @@ module _ (s : List ℕ) (read : readOf s ≡ accepted (statesOf s)) where
             let v = view q in
             let same : v .received ≡ m = cc (v .receive, e) in
             let end : i ≡ from = sym (from-side r (sides s read) v) ∙ ap (λ n. channel r (n .channel) .from) same in
-            let q′ : Paired r from l p k = subst (λ i. Paired r i l p k) end q in
+            let q′ : Paired r from l p k = rw end at q in
             let there = sent-there (view q′ .send) in
             at-some f (count r from) l (there .counted) (there .there) (q′ .same)
 
@@ -69,7 +72,7 @@ module _ (s : List ℕ) (read : readOf s ≡ accepted (statesOf s)) where
     pub paired-known : Known r
     paired-known = clear-known s read unpaired-clear
 
-  pub known-paired : Known r → Nowhere s (Unpaired s)
+  pub known-paired : Known r → Faultless s (Unpaired s)
   known-paired known p k t = clear-paired s read p k t (record {
     newSend = λ l h u.
         let (m, n, a, b, x, y) = same-parts (sending (into r p l)) (sending (into r p k)) u in
@@ -80,16 +83,16 @@ module _ (s : List ℕ) (read : readOf s ≡ accepted (statesOf s)) where
     hasSend = known .origin p k;
   })
 
-pub accepted-read : {s : List ℕ} {a : Reading} {h : Head} → Judged s a → a ≡ Accepted h → readOf s ≡ accepted (statesOf s)
-accepted-read (byPass x d) e = absurd (let z : _≡_ {A = ℕ} 0 1 = cc in omega arith)
+pub accepted-read : {s : List ℕ} {a : RunReading} {h : Head} → Judged s a → a ≡ Accepted h → readOf s ≡ accepted (statesOf s)
+accepted-read (byPass x d) e = never (cc)
 accepted-read (byPairing x d w) e = d
 accepted-read (byCircle x d n w) e = d
 accepted-read (byClock x d n m w) e = d
 accepted-read (wholly d n m o) e = d
 
-pub accepted-known : {s : List ℕ} {a : Reading} {h : Head} → Judged s a → a ≡ Accepted h → Known (runIn s)
-accepted-known (byPass x d) e = absurd (let z : _≡_ {A = ℕ} 0 1 = cc in omega arith)
-accepted-known (byPairing x d w) e = absurd (let z : _≡_ {A = ℕ} 0 1 = cc in omega arith)
+pub accepted-known : {s : List ℕ} {a : RunReading} {h : Head} → Judged s a → a ≡ Accepted h → Known (runIn s)
+accepted-known (byPass x d) e = never (cc)
+accepted-known (byPairing x d w) e = never (cc)
 accepted-known {s} (byCircle x d n w) e = paired-known s d n
 accepted-known {s} (byClock x d n m w) e = paired-known s d n
 accepted-known {s} (wholly d n m o) e = paired-known s d n

@@ -1,7 +1,9 @@
 pub mod Firsts
+pub mod Processes
 pub mod Pairs
 pub mod Partners
-pub mod Once
 pub mod Orders
 pub mod Verdicts
 pub mod Acceptance
+pub mod Once
+pub mod Told

@@ -1,4 +1,5 @@
-// A whole run judged. `pairing`, `order` and `faults` find the first record with each fault that only all records together show, `whole` judges the run: the pass, then these.
+// A whole run judged. `pairing`, `order` and `faults` find the first record with each fault that only all records
+// together show, `whole` judges the run: the pass, then these.
 pub mod faults;
 pub mod order;
 pub mod pairing;
@@ -11,7 +12,7 @@ pub struct Ahead {
 }
 
 // The place of the first record in file order that has a fault, or that none has.
-pub enum First {
+pub enum FirstFault {
     Nothing,
     At(usize),
 }

@@ -1,25 +1,29 @@
-// 12 and 13: which states come after a circle, the clocks of all others, and which records have another. A state is done when the state before it is, and at a receive the state ahead of the send.
+// 12 and 13: which states come after a circle, the clocks of all others, and which records have another. A state is done
+// when the state before it is, and at a receive the state ahead of the send.
 use crate::Ahead;
 use model::Event;
 use record::bytes::u16_at;
+use record::layout::CLOCK_PLACE;
 use run::index::clock_at;
 use run::index::count_of;
 use run::index::enter_clock;
 use run::index::event_at;
 use run::index::partner_of;
 use run::index::place_of;
-use run::states::channel_at;
+use states::held::channel_at;
 ghost use mathlib.Core.Path.{_≡_};
 ghost use mathlib.Core.Logic.{_≢_};
 ghost use Prim.Native.Nat.{_≤_, _<_, max};
 ghost use lib.ListN.{length, replicate};
 ghost use Rattle.model.specs.Run.{IsState};
-ghost use Rattle.model.specs.Cut.{Clocks};
 ghost use Rattle.record.specs.Record.{headOf};
 ghost use Rattle.run.specs.Said.{runIn};
-ghost use Rattle.run.specs.Tables.{clockIn, Listed, Matched};
-ghost use Rattle.judging.specs.Order.{AheadIs, numberAt, numberOf, Written, Sound, Advanced, Swept, Ordered, Compared, FirstOf, FirstsTo};
+ghost use Rattle.run.specs.Index.{Matched};
 ghost use Rattle.judging.specs.Judged.{WrongClock};
+ghost use Rattle.judging.specs.Inner.{Clocked};
+ghost use Rattle.judging.specs.Firsts.{FirstOf, FirstsTo};
+ghost use Rattle.judging.specs.Order.{AheadIs, SlotOrNone, ClockRoom, numberAt, numberOf, Written};
+ghost use Rattle.judging.specs.Order.{Ordering, Advanced, Swept, Ordered, Compared};
 
 // The state ahead of the send that state k of process p receives.
 fn ahead_of(run: &[u8], index: &[u16], p: u16, k: u16) -> Ahead
@@ -58,7 +62,7 @@ fn larger(a: u16, b: u16) -> u16
 
 // Place i of the clock of state k of process p, 0 where k is 0.
 fn number_at(index: &[u16], p: u16, k: u16, i: u16) -> u16
-    requires { ⌜ (length (now index) ≡ 40968) × (p < 8) × (k ≤ 512) × (i < 8) ⌝ }
+    requires { ⌜ (length (now index) ≡ 40968) × SlotOrNone p k × (i < 8) ⌝ }
     ensures { λ r. ⌜ r ≡ numberAt (now (index .entry)) p k i ⌝ }
 {
     if k == 0 {
@@ -69,7 +73,7 @@ fn number_at(index: &[u16], p: u16, k: u16, i: u16) -> u16
 
 // Place i of the clock of state k of process p, by the rule.
 fn number_of(index: &[u16], p: u16, k: u16, ahead: Ahead, i: u16) -> u16
-    requires { ⌜ (length (now index) ≡ 40968) × (p < 8) × (1 ≤ k) × (k ≤ 512) × (ahead .process < 8) × (ahead .state ≤ 512) × (i < 8) ⌝ }
+    requires { ⌜ ClockRoom (now index) p k (ahead .process) (ahead .state) × (i < 8) ⌝ }
     ensures { λ r. ⌜ r ≡ numberOf (now (index .entry)) p k (ahead .process) (ahead .state) i ⌝ }
 {
     if i == p {
@@ -82,7 +86,7 @@ fn number_of(index: &[u16], p: u16, k: u16, ahead: Ahead, i: u16) -> u16
 
 // Writes the clock of state k of process p, n numbers.
 fn clock_row(index: &mut [u16], n: u16, p: u16, k: u16, ahead: Ahead)
-    requires { ⌜ (length (now index) ≡ 40968) × (n ≤ 8) × (p < 8) × (1 ≤ k) × (k ≤ 512) × (ahead .process < 8) × (ahead .state ≤ 512) × (ahead .state ≢ 0 → ahead .process ≢ p) ⌝ }
+    requires { ⌜ ClockRoom (now index) p k (ahead .process) (ahead .state) × (n ≤ 8) × (ahead .state ≢ 0 → ahead .process ≢ p) ⌝ }
     ensures { λ _. ⌜ Written n p k (ahead .process) (ahead .state) (now (index .entry)) (now (index .exit)) ⌝ }
 {
     let mut i: u16 = 0;
@@ -95,8 +99,8 @@ fn clock_row(index: &mut [u16], n: u16, p: u16, k: u16, ahead: Ahead)
 
 // Does the next state of process p if it can; whether it did.
 fn advance(run: &[u8], index: &mut [u16], done: &mut [u16], n: u16, p: u16) -> bool
-    requires { ⌜ Matched (now run) (now index) × (length (now done) ≡ 8) × (n ≡ headOf (now run) .processes) × (p < n) × Sound (runIn (now run)) (now done) (now index) ⌝ }
-    ensures { λ r. ⌜ Advanced (runIn (now (run .entry))) p (now (done .entry)) (now (done .exit)) (now (index .exit)) r × Matched (now (run .entry)) (now (index .exit)) ⌝ }
+    requires { ⌜ Ordering (now run) (now index) (now done) n × (p < n) ⌝ }
+    ensures { λ r. ⌜ Advanced (now (run .entry)) n p (now (done .entry)) (now (done .exit)) (now (index .exit)) r ⌝ }
 {
     let row = p as usize;
     let k = done[row];
@@ -115,8 +119,8 @@ fn advance(run: &[u8], index: &mut [u16], done: &mut [u16], n: u16, p: u16) -> b
 
 // A turn for each process; whether any went on.
 fn sweep(run: &[u8], index: &mut [u16], done: &mut [u16], n: u16) -> bool
-    requires { ⌜ Matched (now run) (now index) × (length (now done) ≡ 8) × (n ≡ headOf (now run) .processes) × Sound (runIn (now run)) (now done) (now index) ⌝ }
-    ensures { λ r. ⌜ Swept (runIn (now (run .entry))) n (now (done .entry)) (now (done .exit)) (now (index .exit)) r × Matched (now (run .entry)) (now (index .exit)) ⌝ }
+    requires { ⌜ Ordering (now run) (now index) (now done) n ⌝ }
+    ensures { λ r. ⌜ Swept (now (run .entry)) n n (now (done .entry)) (now (done .exit)) (now (index .exit)) r ⌝ }
 {
     let mut moved = false;
     let mut p: u16 = 0;
@@ -142,10 +146,10 @@ pub fn order_all(run: &[u8], index: &mut [u16], done: &mut [u16], n: u16)
 
 // Whether the record of state k of process p has a clock number other than the table's.
 fn differs(run: &[u8], index: &[u16], n: u16, p: u16, k: u16) -> bool
-    requires { ⌜ Listed (now run) (now index) × Clocks (runIn (now run)) (clockIn (now index)) × (n ≡ headOf (now run) .processes) × IsState (runIn (now run)) p k ⌝ }
+    requires { ⌜ Clocked (now run) (now index) n × IsState (runIn (now run)) p k ⌝ }
     ensures { λ r. ⌜ Compared (now (run .entry)) p k r ⌝ }
 {
-    let at = place_of(index, p, k) + 34;
+    let at = place_of(index, p, k) + CLOCK_PLACE;
     let mut i: u16 = 0;
     while i < n {
         if u16_at(run, at + 2 * (i as usize)) != clock_at(index, p, k, i) {
@@ -158,7 +162,7 @@ fn differs(run: &[u8], index: &[u16], n: u16, p: u16, k: u16) -> bool
 
 // The first state of process p with such a number, or 0.
 fn clock_fault(run: &[u8], index: &[u16], n: u16, p: u16) -> u16
-    requires { ⌜ Listed (now run) (now index) × Clocks (runIn (now run)) (clockIn (now index)) × (n ≡ headOf (now run) .processes) × (p < n) ⌝ }
+    requires { ⌜ Clocked (now run) (now index) n × (p < n) ⌝ }
     ensures { λ r. ⌜ FirstOf (now (run .entry)) (WrongClock (now (run .entry))) p r ⌝ }
 {
     let count = count_of(index, p);
@@ -174,7 +178,7 @@ fn clock_fault(run: &[u8], index: &[u16], n: u16, p: u16) -> u16
 
 // Of every process, into `bad`.
 pub fn clock_faults(run: &[u8], index: &[u16], bad: &mut [u16], n: u16)
-    requires { ⌜ Listed (now run) (now index) × Clocks (runIn (now run)) (clockIn (now index)) × (length (now bad) ≡ 8) × (n ≡ headOf (now run) .processes) ⌝ }
+    requires { ⌜ Clocked (now run) (now index) n × (length (now bad) ≡ 8) ⌝ }
     ensures { λ _. ⌜ FirstsTo (now (run .entry)) (WrongClock (now (run .entry))) n (now (bad .exit)) ⌝ }
 {
     let mut p: u16 = 0;

@@ -1,23 +1,23 @@
 // 11: each received message with its send. Within a process the file's order is the order of its states, so a second send or receive is one that an
 // earlier state of the same process made already.
-use crate::First;
+use crate::FirstFault;
 use crate::faults::earliest;
 use model::Event;
 use model::Message;
 use run::index::count_of;
 use run::index::enter_partner;
 use run::index::event_at;
-use run::states::channel_at;
+use states::held::channel_at;
 ghost use mathlib.Core.Path.{_≡_};
-ghost use mathlib.Core.Bool.{true, false};
-ghost use Prim.Native.Nat.{_+_, _*_, _≤_, _<_};
+ghost use Prim.Native.Nat.{_≤_, _<_};
 ghost use lib.ListN.{length};
-ghost use Rattle.model.specs.Run.{count, into, channel, IsState};
+ghost use Rattle.model.specs.Run.{into, IsState};
 ghost use Rattle.record.specs.Record.{headOf};
 ghost use Rattle.run.specs.Said.{runIn};
-ghost use Rattle.run.specs.Tables.{Listed, Fresh};
-ghost use Rattle.judging.specs.Inner.{PairingJudged};
-ghost use Rattle.judging.specs.Pairing.{carries, Found, entry, Rising, Repeats, Received, Settled, Row, Rows};
+ghost use Rattle.run.specs.Index.{Listed};
+ghost use Rattle.judging.specs.Inner.{NewlyListed, PairingJudged};
+ghost use Rattle.judging.specs.Pairing.{carries, Carrier, Stretch, SendIs, markAt, Marking, Repeats};
+ghost use Rattle.judging.specs.Pairing.{Received, PairingTables, PairingAt, Settled, ProcessPaired, ProcessesPaired};
 
 // Whether an event sends, or receives, the message.
 fn carries_it(event: Event, sends: bool, message: Message) -> bool
@@ -42,8 +42,8 @@ fn find(
     sends: bool,
     message: Message,
 ) -> u16
-    requires { ⌜ Listed (now run) (now index) × (p < headOf (now run) .processes) × (1 ≤ low) × (high ≤ count (runIn (now run)) p) ⌝ }
-    ensures { λ r. ⌜ Found (runIn (now (run .entry))) p low high sends message r ⌝ }
+    requires { ⌜ Stretch (now run) (now index) p low high ⌝ }
+    ensures { λ r. ⌜ Carrier (runIn (now (run .entry))) p low high sends message r ⌝ }
 {
     let mut k = low;
     while k <= high {
@@ -57,8 +57,8 @@ fn find(
 }
 
 // The entry of the marks for what is sent, or received, on a channel.
-fn entry_of(sends: bool, channel: u16) -> usize
-    ensures { λ r. ⌜ r ≡ entry sends channel ⌝ }
+fn mark_at(sends: bool, channel: u16) -> usize
+    ensures { λ r. ⌜ r ≡ markAt sends channel ⌝ }
 {
     if sends {
         return 2 * (channel as usize);
@@ -76,10 +76,10 @@ fn repeated(
     sends: bool,
     message: Message,
 ) -> bool
-    requires { ⌜ Listed (now run) (now index) × IsState (runIn (now run)) p k × (length (now marks) ≡ 32) × (message .channel < 16) × Rising (runIn (now run)) sends p k (now marks) ⌝ }
+    requires { ⌜ Listed (now run) (now index) × IsState (runIn (now run)) p k × Marking (runIn (now run)) sends p k (message .channel) (now marks) ⌝ }
     ensures { λ r. ⌜ Repeats (runIn (now (run .entry))) p k sends message (now (marks .entry)) (now (marks .exit)) r ⌝ }
 {
-    let i = entry_of(sends, message.channel);
+    let i = mark_at(sends, message.channel);
     let number = message.number as u64;
     if marks[i] <= number {
         marks[i] = number + 1;
@@ -98,7 +98,7 @@ fn behind(hint: u16, count: u16) -> u16
 // The state of the channel's sender that sends the message; 0 where none does.
 fn send_of(run: &[u8], index: &[u16], hints: &mut [u16], message: Message) -> u16
     requires { ⌜ Listed (now run) (now index) × (length (now hints) ≡ 16) × (message .channel < headOf (now run) .channels) ⌝ }
-    ensures { λ r. ⌜ Found (runIn (now (run .entry))) (channel (runIn (now (run .entry))) (message .channel) .from) 1 (count (runIn (now (run .entry))) (channel (runIn (now (run .entry))) (message .channel) .from)) true message r ⌝ }
+    ensures { λ r. ⌜ SendIs (runIn (now (run .entry))) message r ⌝ }
 {
     let c = message.channel as usize;
     let from = channel_at(run, message.channel).from;
@@ -121,8 +121,9 @@ fn send_of(run: &[u8], index: &[u16], hints: &mut [u16], message: Message) -> u1
 
 // Enters a receive and its send as each other's partner; true where there is no such send.
 fn enter(run: &[u8], index: &mut [u16], hints: &mut [u16], p: u16, k: u16, message: Message) -> bool
-    requires { ⌜ Listed (now run) (now index) × (length (now hints) ≡ 16) × IsState (runIn (now run)) p k × (into (runIn (now run)) p k ≡ Event.Receive message) ⌝ }
-    ensures { λ r. ⌜ Received (runIn (now (run .entry))) p k (now (index .entry)) (now (index .exit)) r × Listed (now (run .entry)) (now (index .exit)) ⌝ }
+    requires { ⌜ Listed (now run) (now index) × (length (now hints) ≡ 16) × (into (runIn (now run)) p k ≡ Event.Receive message) ⌝ }
+    ensures { λ r. ⌜ Received (runIn (now (run .entry))) p k (now (index .entry)) (now (index .exit)) r ⌝ }
+    ensures { λ _. ⌜ Listed (now (run .entry)) (now (index .exit)) ⌝ }
 {
     let l = send_of(run, index, hints, message);
     if l == 0 {
@@ -143,8 +144,9 @@ fn settle(
     p: u16,
     k: u16,
 ) -> bool
-    requires { ⌜ Listed (now run) (now index) × (length (now marks) ≡ 32) × (length (now hints) ≡ 16) × IsState (runIn (now run)) p k × Rising (runIn (now run)) true p k (now marks) × Rising (runIn (now run)) false p k (now marks) ⌝ }
-    ensures { λ r. ⌜ Settled (runIn (now (run .entry))) p k (now (index .entry)) (now (index .exit)) (now (marks .entry)) (now (marks .exit)) r × Listed (now (run .entry)) (now (index .exit)) ⌝ }
+    requires { ⌜ PairingAt (now run) (now index) (now marks) (now hints) p k × IsState (runIn (now run)) p k ⌝ }
+    ensures { λ r. ⌜ Settled (runIn (now (run .entry))) p k (now (index .entry)) (now (index .exit)) (now (marks .exit)) r ⌝ }
+    ensures { λ _. ⌜ Listed (now (run .entry)) (now (index .exit)) ⌝ }
 {
     let event = event_at(run, index, p, k);
     match event {
@@ -162,8 +164,9 @@ fn settle(
 
 // The first faulty state of process p, or 0; what its states receive is entered.
 fn pair_row(run: &[u8], index: &mut [u16], marks: &mut [u64], hints: &mut [u16], p: u16) -> u16
-    requires { ⌜ Listed (now run) (now index) × (length (now marks) ≡ 32) × (length (now hints) ≡ 16) × (p < headOf (now run) .processes) ⌝ }
-    ensures { λ r. ⌜ Row (runIn (now (run .entry))) p (now (index .entry)) (now (index .exit)) r × Listed (now (run .entry)) (now (index .exit)) ⌝ }
+    requires { ⌜ Listed (now run) (now index) × PairingTables (now marks) (now hints) × (p < headOf (now run) .processes) ⌝ }
+    ensures { λ r. ⌜ ProcessPaired (runIn (now (run .entry))) p (now (index .entry)) (now (index .exit)) r ⌝ }
+    ensures { λ _. ⌜ Listed (now (run .entry)) (now (index .exit)) ⌝ }
 {
     let count = count_of(index, p);
     let mut k: u16 = 1;
@@ -178,8 +181,9 @@ fn pair_row(run: &[u8], index: &mut [u16], marks: &mut [u64], hints: &mut [u16],
 
 // Every process: its first faulty state, or 0, into `bad`, and the partners.
 pub fn pair_all(run: &[u8], index: &mut [u16], bad: &mut [u16], n: u16)
-    requires { ⌜ Listed (now run) (now index) × Fresh 4104 (now index) × (length (now bad) ≡ 8) × (n ≡ headOf (now run) .processes) ⌝ }
-    ensures { λ _. ⌜ Rows (runIn (now (run .entry))) n (now (bad .exit)) (now (index .exit)) × Listed (now (run .entry)) (now (index .exit)) ⌝ }
+    requires { ⌜ NewlyListed (now run) (now index) n × (length (now bad) ≡ 8) ⌝ }
+    ensures { λ _. ⌜ ProcessesPaired (runIn (now (run .entry))) n (now (bad .exit)) (now (index .exit)) ⌝ }
+    ensures { λ _. ⌜ Listed (now (run .entry)) (now (index .exit)) ⌝ }
 {
     let mut marks = [0u64; 32];
     let mut hints = [0u16; 16];
@@ -193,8 +197,8 @@ pub fn pair_all(run: &[u8], index: &mut [u16], bad: &mut [u16], n: u16)
 }
 
 // The first record in file order that is a second send or receive, or a receive with no send; where there is none, the partners.
-pub fn first_unpaired(run: &[u8], index: &mut [u16], n: u16) -> First
-    requires { ⌜ Listed (now run) (now index) × Fresh 4104 (now index) × (n ≡ headOf (now run) .processes) ⌝ }
+pub fn first_unpaired(run: &[u8], index: &mut [u16], n: u16) -> FirstFault
+    requires { ⌜ NewlyListed (now run) (now index) n ⌝ }
     ensures { λ r. ⌜ PairingJudged (now (run .entry)) (now (index .exit)) r × Listed (now (run .entry)) (now (index .exit)) ⌝ }
 {
     let mut bad = [0u16; 8];

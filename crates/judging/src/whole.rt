@@ -1,5 +1,5 @@
 // The judging of a whole run: the pass, then 11, 12 and 13 over all records, each at its first record in file order.
-use crate::First;
+use crate::FirstFault;
 use crate::faults::earliest;
 use crate::order::clock_faults;
 use crate::order::order_all;
@@ -10,19 +10,16 @@ use record::reasons::CIRCLE;
 use record::reasons::CLOCK;
 use record::reasons::PAIRING;
 use record::reasons::refusal_of;
-use run::Reading;
+use run::RunReading;
 use run::index::count_of;
 use run::pass::read_run;
 ghost use mathlib.Core.Path.{_≡_};
-ghost use Prim.Native.Nat.{ℕ, _+_, _≤_, _<_};
-ghost use lib.ListN.{length, getD, replicate};
+ghost use Prim.Native.Nat.{_≤_};
+ghost use lib.ListN.{replicate};
 ghost use Rattle.record.specs.Record.{headOf};
-ghost use Rattle.model.specs.Cut.{Clocks};
-ghost use Rattle.run.specs.Said.{runIn};
-ghost use Rattle.run.specs.Tables.{clockIn, Listed, Matched, Fresh};
+ghost use Rattle.run.specs.Index.{Listed, Matched, Fresh};
 ghost use Rattle.judging.specs.Judged.{Judged};
-ghost use Rattle.judging.specs.Inner.{CircleJudged, ClockJudged, Ready};
-ghost use Rattle.judging.specs.Inner.{nextOf, Undone};
+ghost use Rattle.judging.specs.Inner.{Clocked, nextOf, Undone, ProcessRoom, CircleJudged, ClockJudged, Ready};
 
 // The state behind the last one that is done, or 0 where all are.
 fn next_of(done: u16, count: u16) -> u16
@@ -34,7 +31,7 @@ fn next_of(done: u16, count: u16) -> u16
 
 // Of each process the first state that isn't done, or 0.
 fn undone(index: &[u16], done: &[u16], bad: &mut [u16], n: u16)
-    requires { ⌜ (length (now index) ≡ 40968) × (length (now done) ≡ 8) × (length (now bad) ≡ 8) × (n ≤ 8) × ((p : ℕ) → p < n → getD (now index) p 0 ≤ 512) ⌝ }
+    requires { ⌜ ProcessRoom n (now index) (now done) (now bad) ⌝ }
     ensures { λ _. ⌜ Undone n (now (index .entry)) (now (done .entry)) (now (bad .exit)) ⌝ }
 {
     let mut p: u16 = 0;
@@ -46,7 +43,7 @@ fn undone(index: &[u16], done: &[u16], bad: &mut [u16], n: u16)
 }
 
 // The first record in file order whose state is on a circle or after one; where there is none, the clocks.
-pub fn first_circular(run: &[u8], index: &mut [u16], n: u16) -> First
+pub fn first_circular(run: &[u8], index: &mut [u16], n: u16) -> FirstFault
     requires { ⌜ Matched (now run) (now index) × (n ≡ headOf (now run) .processes) ⌝ }
     ensures { λ r. ⌜ CircleJudged (now (run .entry)) (now (index .exit)) r × Matched (now (run .entry)) (now (index .exit)) ⌝ }
 {
@@ -58,8 +55,8 @@ pub fn first_circular(run: &[u8], index: &mut [u16], n: u16) -> First
 }
 
 // The first record in file order with a clock number other than the rule's.
-pub fn first_wrong_clock(run: &[u8], index: &[u16], n: u16) -> First
-    requires { ⌜ Listed (now run) (now index) × Clocks (runIn (now run)) (clockIn (now index)) × (n ≡ headOf (now run) .processes) ⌝ }
+pub fn first_wrong_clock(run: &[u8], index: &[u16], n: u16) -> FirstFault
+    requires { ⌜ Clocked (now run) (now index) n ⌝ }
     ensures { λ r. ⌜ ClockJudged (now (run .entry)) r ⌝ }
 {
     let mut bad = [0u16; 8];
@@ -68,33 +65,33 @@ pub fn first_wrong_clock(run: &[u8], index: &[u16], n: u16) -> First
 }
 
 // 11, then 12, then 13.
-fn judge_states(run: &[u8], index: &mut [u16], head: Head) -> Reading
+fn judge_states(run: &[u8], index: &mut [u16], head: Head) -> RunReading
     requires { ⌜ Listed (now run) (now index) × Fresh 4104 (now index) × (head ≡ headOf (now run)) ⌝ }
     ensures { λ r. ⌜ Judged (now (run .entry)) r × Ready (now (run .entry)) (now (index .exit)) r ⌝ }
 {
     let n = head.processes;
     let unpaired = first_unpaired(run, index, n);
-    if let First::At(place) = unpaired {
-        return Reading::Refused(refusal_of(File::Run, PAIRING, place));
+    if let FirstFault::At(place) = unpaired {
+        return RunReading::Refused(refusal_of(File::Run, PAIRING, place));
     }
     let circular = first_circular(run, index, n);
-    if let First::At(place) = circular {
-        return Reading::Refused(refusal_of(File::Run, CIRCLE, place));
+    if let FirstFault::At(place) = circular {
+        return RunReading::Refused(refusal_of(File::Run, CIRCLE, place));
     }
     let wrong = first_wrong_clock(run, index, n);
-    if let First::At(place) = wrong {
-        return Reading::Refused(refusal_of(File::Run, CLOCK, place));
+    if let FirstFault::At(place) = wrong {
+        return RunReading::Refused(refusal_of(File::Run, CLOCK, place));
     }
-    Reading::Accepted(head)
+    RunReading::Accepted(head)
 }
 
 // A whole run: its index filled, or the first refusal. The index comes as zeros, which every caller has just made it.
-pub fn judge_run(run: &[u8], index: &mut [u16]) -> Reading
+pub fn judge_run(run: &[u8], index: &mut [u16]) -> RunReading
     requires { ⌜ now index ≡ replicate 40968 0 ⌝ }
     ensures { λ r. ⌜ Judged (now (run .entry)) r × Ready (now (run .entry)) (now (index .exit)) r ⌝ }
 {
     let reading = read_run(run, index);
-    let Reading::Accepted(head) = reading else {
+    let RunReading::Accepted(head) = reading else {
         return reading;
     };
     judge_states(run, index, head)

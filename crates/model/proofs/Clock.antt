@@ -10,7 +10,8 @@ use Rattle.model.proofs.Circle.{Direct, last}
 use Rattle.model.proofs.Lists.{le-or-lt}
 use Rattle.model.proofs.Order.{before-down, source, target}
 use Rattle.model.proofs.Pairing.{first-start, one-send, receive-start, received-there, view}
-use Rattle.model.specs.Run.{Paired, Known, IsState, Run, into}
+use Rattle.model.specs.Run.{Paired, IsState, Run, into}
+use Rattle.model.specs.Known.{Known}
 use Rattle.model.specs.Cut.{AfterCircle, Before, ClockIs}
 use Rattle.model.specs.Cut.Before.{next, message, through}
 

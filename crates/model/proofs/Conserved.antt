@@ -9,9 +9,11 @@ use native.Mathlib.Nat.{eq-or-lt-of-le}
 use native.Mathlib.Omega.{arith}
 use lib.Dec.{T}
 use lib.ListN.{length}
+use Rattle.model.proofs.Numbers.{never}
 use Rattle.model.specs.declared.Message.{Message}
 use Rattle.model.specs.declared.Event.the-variants.{Send, Receive}
-use Rattle.model.specs.Run.{Run, into, channel, paired, Paired, Known}
+use Rattle.model.specs.Run.{Run, into, channel, paired, Paired}
+use Rattle.model.specs.Known.{Known}
 use Rattle.model.specs.Cut.{at, IsCut, Consistent, ByMessage, sends, waiting, add, upTo, between, inTransit}
 use Rattle.model.proofs.Pairing.{view, from-end, one-send, one-receive, sent-there}
 use Rattle.model.proofs.Messages.{arrived, receives, sends-send, send-sends, receives-receive, receive-receives, arrived-at}
@@ -111,7 +113,7 @@ module _ (r : Run) (known : Known r) (c : ℕ) where
           let same : p .sent ≡ m = cc (p .send, sends-send r c k m s .0) in
           let on : p .received .channel ≡ c = sym (p .on) ∙ ap (λ x. x .channel) same ∙ sends-send r c k m s .1 in
           let bad = receive-receives r c (suc b) (p .received) (p .receive) on in
-          let z : _≡_ {A = ℕ} 0 1 = cc (bad, e) in absurd (omega arith)))) ∙ rest
+          never (cc (bad, e))))) ∙ rest
       go (some m) e rest =
           let (x, y) = receives-receive r c (suc b) m e in
           let (k, q, h) = w (suc b) m (omega arith) x y in

@@ -9,12 +9,16 @@ use native.Mathlib.Nat.{eq-or-lt-of-le}
 use native.Mathlib.Omega.{arith}
 use lib.Dec.{T, eqb, leb, eqb→eq, leb→le, le→leb}
 use lib.ListN.{length, getD}
+use Rattle.model.proofs.Numbers.{never}
 use Rattle.model.specs.declared.Message.{Message}
 use Rattle.model.specs.declared.Event.{Event}
 use Rattle.model.specs.declared.Event.the-variants.{Start, Internal, Send, Receive}
-use Rattle.model.specs.Run.{Run, State, into, channel, count, processes, IsState, receiving, paired, Known}
+use Rattle.model.specs.Run.{Run, State, into, channel, count, processes, IsState, receiving, paired}
+use Rattle.model.specs.Known.{Known}
 use Rattle.model.specs.Cut.{at, IsCut, ByMessage, someUpTo}
-use Rattle.model.specs.Clause.{everyOf, Clause, holds, Linear, Satisfies, First, Last}
+use Rattle.model.specs.Clause.{everyOf, Clause, holds, Satisfies, First}
+use Rattle.model.specs.Linear.{Linear}
+use Rattle.model.specs.Last.{Last}
 use Rattle.model.proofs.Lists.{eq→eqb, and-T, T-and, everyBelow, some-at, at-some, every-below, below-every, every-mem, mem-every, keep, keep-mem, mem-keep}
 use Rattle.model.proofs.Pairing.{view, from-end, sent-there, received-there, process-there}
 use Rattle.model.proofs.Order.{consistent-by-message}
@@ -200,7 +204,7 @@ module _ {f : List ℕ → List ℕ → List ℕ} {R : ℕ → ℕ → Type 0} (
     -- what is chosen of all satisfying cuts satisfies, and is related to each
     chosen : (cs : List (List ℕ)) → ((d : List ℕ) → Satisfies r cond d ↔ List·Memᴰ d cs) → (c : List ℕ) → foldOf f cs ≡ some c
         → Satisfies r cond c × ((d : List ℕ) → Satisfies r cond d → (i : ℕ) → R (at c i) (at d i))
-    chosen [] k c e = let z : _≡_ {A = ℕ} 0 1 = cc in absurd (omega arith)
+    chosen [] k c e = never (cc)
     chosen (x ∷ cs) k c e =
         let same : fold f x cs ≡ c = cc in
         rw (← same) (
@@ -210,7 +214,7 @@ module _ {f : List ℕ → List ℕ → List ℕ} {R : ℕ → ℕ → Type 0} (
 
     not-chosen : (cs : List (List ℕ)) → ((d : List ℕ) → Satisfies r cond d ↔ List·Memᴰ d cs) → foldOf f cs ≡ none → (d : List ℕ) → ¬ Satisfies r cond d
     not-chosen [] k e d x = List·Memᴰ·not-nil (k d .0 x)
-    not-chosen (c ∷ cs) k e d x = let z : _≡_ {A = ℕ} 0 1 = cc in omega arith
+    not-chosen (c ∷ cs) k e d x = never (cc)
 
 module _ (r : Run) (known : Known r) (cond : List Clause) (linear : Linear cond) where
   -- the cuts that satisfy are those that the test finds among all

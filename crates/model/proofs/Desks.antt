@@ -8,13 +8,17 @@ use Prim.Native.Nat.{ℕ, zero, suc, _+_}
 use native.Mathlib.Omega.{arith}
 use lib.IntN.{ℤ, pos, negsuc}
 use lib.ListN.{length, take}
+use Rattle.model.proofs.Numbers.{never}
 use Rattle.model.specs.declared.Message.{Message}
 use Rattle.model.specs.declared.Event.{Event}
 use Rattle.model.specs.declared.Event.the-variants.{Start, Internal, Send, Receive}
-use Rattle.model.specs.Run.{Run, State, history, state, into, IsState, paired, Paired, Known}
-use Rattle.model.specs.Cut.{Before, AfterCircle, ClockIs, at, sends, waiting, between, inTransit, SameUpTo}
+use Rattle.model.specs.Run.{Run, State, history, state, into, IsState, paired, Paired}
+use Rattle.model.specs.Known.{Known}
+use Rattle.model.specs.Cut.{Before, AfterCircle, ClockIs, at, sends, waiting, between, inTransit}
+use Rattle.model.specs.Same.{SameUpTo}
 use Rattle.model.specs.Cut.Before.{message, through}
-use Rattle.model.specs.Clause.{Test, passes, Clause, holds, Linear, Satisfies, First}
+use Rattle.model.specs.Clause.{Test, passes, Clause, holds, Satisfies, First}
+use Rattle.model.specs.Linear.{Linear}
 use Rattle.model.specs.Clause.Clause.{local, on}
 use Rattle.model.specs.Clause.Comparison.{equal, other, atMost, atLeast}
 use Rattle.model.specs.Clause.Test.{countAtMost, countAtLeast, countIs, stampIs, noStampIs, everyAtLeast, someAtMost, countOdd, countOther}
@@ -28,12 +32,12 @@ use Rattle.model.proofs.Tested.{known-test}
 
 -- ---- a table of conditions and their answers, under one theorem
 
-pub record Case : Type 0 where
+pub record Example : Type 0 where
   pub clauses : List Clause
   pub answer : Option (List ℕ)
 
-unfoldable pub case : List Clause → Option (List ℕ) → Case
-case k a = record { clauses = k; answer = a }
+unfoldable pub example : List Clause → Option (List ℕ) → Example
+example k a = record { clauses = k; answer = a }
 
 -- what an answer of the search says
 abbrev pub Answer : Run → List Clause → Option (List ℕ) → Type 0
@@ -44,11 +48,11 @@ answered : (r : Run) → Known r → (cond : List Clause) → Linear cond → (a
 answered r known cond linear none e = none-found r known cond linear e
 answered r known cond linear (some c) e = first-found r known cond linear c e
 
-abbrev Computed : Run → List Case → Type 0
+abbrev Computed : Run → List Example → Type 0
 Computed r [] = Unit {0}
 Computed r (k ∷ ks) = (Linear (k .clauses) × (first? r (k .clauses) ≡ k .answer)) × Computed r ks
 
-all-answered : (r : Run) → Known r → (ks : List Case) → Computed r ks → (k : Case) → List·Memᴰ k ks → Answer r (k .clauses) (k .answer)
+all-answered : (r : Run) → Known r → (ks : List Example) → Computed r ks → (k : Example) → List·Memᴰ k ks → Answer r (k .clauses) (k .answer)
 all-answered r known (x ∷ ks) w k (List·Memᴰ·head e) = rw e (answered r known (x .clauses) (w .0 .0) (x .answer) (w .0 .1))
 all-answered r known (x ∷ ks) w k (List·Memᴰ·tail q) = all-answered r known ks (w .1) k q
 
@@ -79,28 +83,28 @@ unfolding desks row note into state paired
 consistent-cuts = refl
 
 -- cases 2 to 8, and below them the rows that tell apart what those leave open
-unfoldable pub table : List Case
+unfoldable pub table : List Example
 table =
-    case [] (some (1 ∷ 1 ∷ []))
-    ∷ case (on 0 (countIs 1) ∷ []) (some (2 ∷ 1 ∷ []))
-    ∷ case (local 0 0 atLeast (pos 1) ∷ on 0 (countAtMost 0) ∷ []) (some (2 ∷ 2 ∷ []))
-    ∷ case (local 1 0 equal (pos 1) ∷ []) (some (2 ∷ 3 ∷ []))
-    ∷ case (local 1 0 equal (pos 1) ∷ on 0 (countAtLeast 1) ∷ []) none
-    ∷ case (on 0 (everyAtLeast (pos 6)) ∷ []) (some (1 ∷ 1 ∷ []))
-    ∷ case (on 0 (someAtMost (pos 4)) ∷ []) none
-    ∷ case (on 0 (stampIs (pos 5)) ∷ []) (some (2 ∷ 1 ∷ []))
-    ∷ case (local 0 0 atLeast (pos 1) ∷ on 0 (noStampIs (pos 5)) ∷ []) (some (2 ∷ 2 ∷ []))
-    ∷ case (local 0 0 atLeast (pos 1) ∷ on 0 (noStampIs (pos 6)) ∷ []) (some (2 ∷ 1 ∷ []))
-    ∷ case (local 0 0 atLeast (pos 1) ∷ on 0 (everyAtLeast (pos 6)) ∷ []) (some (2 ∷ 2 ∷ []))
-    ∷ case (local 0 0 atLeast (pos 1) ∷ on 0 (everyAtLeast (negsuc 0)) ∷ []) (some (2 ∷ 1 ∷ []))
-    ∷ case (on 0 (someAtMost (pos 5)) ∷ []) (some (2 ∷ 1 ∷ []))
-    ∷ case (local 1 0 other (pos 0) ∷ []) (some (2 ∷ 3 ∷ []))
-    ∷ case (local 0 0 atMost (pos 0) ∷ on 0 (countAtLeast 1) ∷ []) none
-    ∷ case (local 0 1 atLeast (pos 1) ∷ []) none
+    example [] (some (1 ∷ 1 ∷ []))
+    ∷ example (on 0 (countIs 1) ∷ []) (some (2 ∷ 1 ∷ []))
+    ∷ example (local 0 0 atLeast (pos 1) ∷ on 0 (countAtMost 0) ∷ []) (some (2 ∷ 2 ∷ []))
+    ∷ example (local 1 0 equal (pos 1) ∷ []) (some (2 ∷ 3 ∷ []))
+    ∷ example (local 1 0 equal (pos 1) ∷ on 0 (countAtLeast 1) ∷ []) none
+    ∷ example (on 0 (everyAtLeast (pos 6)) ∷ []) (some (1 ∷ 1 ∷ []))
+    ∷ example (on 0 (someAtMost (pos 4)) ∷ []) none
+    ∷ example (on 0 (stampIs (pos 5)) ∷ []) (some (2 ∷ 1 ∷ []))
+    ∷ example (local 0 0 atLeast (pos 1) ∷ on 0 (noStampIs (pos 5)) ∷ []) (some (2 ∷ 2 ∷ []))
+    ∷ example (local 0 0 atLeast (pos 1) ∷ on 0 (noStampIs (pos 6)) ∷ []) (some (2 ∷ 1 ∷ []))
+    ∷ example (local 0 0 atLeast (pos 1) ∷ on 0 (everyAtLeast (pos 6)) ∷ []) (some (2 ∷ 2 ∷ []))
+    ∷ example (local 0 0 atLeast (pos 1) ∷ on 0 (everyAtLeast (negsuc 0)) ∷ []) (some (2 ∷ 1 ∷ []))
+    ∷ example (on 0 (someAtMost (pos 5)) ∷ []) (some (2 ∷ 1 ∷ []))
+    ∷ example (local 1 0 other (pos 0) ∷ []) (some (2 ∷ 3 ∷ []))
+    ∷ example (local 0 0 atMost (pos 0) ∷ on 0 (countAtLeast 1) ∷ []) none
+    ∷ example (local 0 1 atLeast (pos 1) ∷ []) none
     ∷ []
 
-pub marked : (k : Case) → List·Memᴰ k table → Answer desks (k .clauses) (k .answer)
-unfolding desks row note table case into state paired sends waiting between inTransit holds
+pub marked : (k : Example) → List·Memᴰ k table → Answer desks (k .clauses) (k .answer)
+unfolding desks row note table example into state paired sends waiting between inTransit holds
 marked = all-answered desks desks-known table (
   (tt, refl),
   (
@@ -171,8 +175,8 @@ Own j l = (m : Message) → into desks j l ≢ Receive m
 own : (Own 0 2 × Own 0 3) × Own 1 3
 unfolding desks row note into state
 own = (
-  (λ m e. let z : _≡_ {A = ℕ} 0 1 = cc in omega arith, λ m e. let z : _≡_ {A = ℕ} 0 1 = cc in omega arith),
-  λ m e. let z : _≡_ {A = ℕ} 0 1 = cc in omega arith,
+  (λ m e. never (cc), λ m e. never (cc)),
+  λ m e. never (cc),
 )
 
 first-clear : (j : ℕ) → ¬ AfterCircle desks j 1
@@ -258,15 +262,15 @@ pub twin-known : Known twin
 unfolding twin row note into state paired
 twin-known = known-test twin tt
 
-pub twin-table : List Case
+pub twin-table : List Example
 twin-table =
-    case (on 1 (countAtLeast 1) ∷ []) (some (3 ∷ 1 ∷ []))
-    ∷ case (on 0 (countIs 1) ∷ on 1 (countIs 0) ∷ local 1 3 equal (pos 0) ∷ []) (some (2 ∷ 1 ∷ []))
-    ∷ case (on 0 (stampIs (pos 6)) ∷ []) none
+    example (on 1 (countAtLeast 1) ∷ []) (some (3 ∷ 1 ∷ []))
+    ∷ example (on 0 (countIs 1) ∷ on 1 (countIs 0) ∷ local 1 3 equal (pos 0) ∷ []) (some (2 ∷ 1 ∷ []))
+    ∷ example (on 0 (stampIs (pos 6)) ∷ []) none
     ∷ []
 
-pub twin-marked : (k : Case) → List·Memᴰ k twin-table → Answer twin (k .clauses) (k .answer)
-unfolding twin row note twin-table case into state paired sends waiting between inTransit holds
+pub twin-marked : (k : Example) → List·Memᴰ k twin-table → Answer twin (k .clauses) (k .answer)
+unfolding twin row note twin-table example into state paired sends waiting between inTransit holds
 twin-marked = all-answered twin twin-known twin-table ((tt, refl), ((tt, refl), ((tt, refl), tt)))
 
 -- the message of channel 0 is not received by the receive of channel 1

@@ -9,9 +9,12 @@ use lib.IntN.{pos}
 use lib.Dec.{T}
 use lib.ListN.{length, getD}
 use lib.Seq.{ext-getD}
-use Rattle.model.specs.Run.{Run, state, channel, IsState, Paired, Known}
+use Rattle.model.specs.Run.{Run, state, channel, IsState, Paired}
+use Rattle.model.specs.Known.{Known}
 use Rattle.model.specs.Cut.{at, IsCut, ByMessage, between, inTransit}
-use Rattle.model.specs.Clause.{compares, Test, passes, Clause, holds, Linear, Satisfies, First, Last}
+use Rattle.model.specs.Clause.{compares, Test, passes, Clause, holds, Satisfies, First}
+use Rattle.model.specs.Linear.{Linear}
+use Rattle.model.specs.Last.{Last}
 use Rattle.model.specs.Clause.Clause.{local, on}
 use Rattle.model.proofs.Lists.{le-or-lt, every-mem}
 use Rattle.model.proofs.Pairing.{view, one-send}

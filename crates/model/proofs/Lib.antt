@@ -1,3 +1,5 @@
+pub mod Numbers
+pub mod Total
 pub mod Lists
 pub mod Pairing
 pub mod Order

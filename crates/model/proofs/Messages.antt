@@ -4,9 +4,9 @@ use mathlib.Core.Logic.{_≢_}
 use mathlib.Core.Bool.{Bool, true, false, cond}
 use mathlib.Core.Option.{Option, some, none}
 use Prim.Native.Nat.{ℕ, _≤_}
-use native.Mathlib.Omega.{arith}
 use borrow.Author.Tests.{eqb-true}
 use lib.Dec.{T, eqb}
+use Rattle.model.proofs.Numbers.{never}
 use Rattle.model.specs.declared.Message.{Message}
 use Rattle.model.specs.declared.Event.{Event}
 use Rattle.model.specs.declared.Event.the-variants.{Start, Internal, Send, Receive}
@@ -28,15 +28,15 @@ receiving-receive (Receive n) m h = cc
 
 -- an event that receives nothing isn't a receive
 pub no-receive : {v : Event} (e : Event) → v ≡ e → receiving e ≡ none → (m : Message) → v ≢ Receive m
-no-receive e g n m h = let y = ap receiving (sym g ∙ h) in let z : _≡_ {A = ℕ} 0 1 = cc in omega arith
+no-receive e g n m h = let y = ap receiving (sym g ∙ h) in never (cc)
 
 on-some : (c : ℕ) (o : Option Message) (m : Message) → onChannel c o ≡ some m → (o ≡ some m) × (m .channel ≡ c)
-on-some c none m h = let z : _≡_ {A = ℕ} 0 1 = cc in absurd (omega arith)
+on-some c none m h = never (cc)
 on-some c (some n) m h = go (eqb (n .channel) c) refl h
   where
     go : (b : Bool) → eqb (n .channel) c ≡ b → cond b (some n) none ≡ some m → (some n ≡ some m) × (m .channel ≡ c)
     go true e h = let same : n ≡ m = cc in (h, ap (λ x. x .channel) (sym same) ∙ eqb-true (n .channel) c e)
-    go false e h = let z : _≡_ {A = ℕ} 0 1 = cc in absurd (omega arith)
+    go false e h = never (cc)
 
 some-on : (c : ℕ) (m : Message) → m .channel ≡ c → onChannel c (some m) ≡ some m
 some-on c m e = go (eqb (m .channel) c) (eq→eqb (m .channel) c e)

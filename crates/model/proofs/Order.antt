@@ -8,8 +8,10 @@ use native.Mathlib.Decide.{le-ind, ℕ-discrete}
 use native.Mathlib.Omega.{arith}
 use Rattle.model.proofs.Lists.{le-or-lt}
 use Rattle.model.proofs.Pairing.{view, apart, one-send, sent-there, received-there, process-there}
-use Rattle.model.specs.Run.{Paired, Known, Run, count, processes, IsState}
-use Rattle.model.specs.Cut.{Before, ClockIs, ByClock, ByMessage, Clocks, Consistent, IsCut, at}
+use Rattle.model.specs.Run.{Paired, Run, count, processes, IsState}
+use Rattle.model.specs.Known.{Known}
+use Rattle.model.specs.Cut.{Before, ClockIs, ByMessage, Consistent, IsCut, at}
+use Rattle.model.specs.Clocks.{ByClock, Clocks}
 use Rattle.model.specs.Cut.Before.{next, message, through}
 
 module _ {r : Run} where

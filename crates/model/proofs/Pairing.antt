@@ -6,10 +6,12 @@ use Prim.Native.Nat.{ℕ, zero, suc, _≤_, _<_}
 use native.Mathlib.Omega.{arith}
 use lib.Dec.{T, eqb, eqb→eq}
 use lib.ListN.{length, List·getD-eq-default}
+use Rattle.model.proofs.Numbers.{never}
 use Rattle.model.specs.declared.Message.{Message}
 use Rattle.model.specs.declared.Event.{Event}
 use Rattle.model.specs.declared.Event.the-variants.{Start, Internal, Send, Receive}
-use Rattle.model.specs.Run.{Run, State, nth, noState, history, state, into, channel, count, processes, IsState, sending, receiving, sameMessage, paired, Paired, Sides, Known}
+use Rattle.model.specs.Run.{Run, State, nth, noState, history, state, into, channel, count, processes, IsState, sending, receiving, sameMessage, paired, Paired}
+use Rattle.model.specs.Known.{Sides, Known}
 use Rattle.model.proofs.Lists.{le-or-lt, eq→eqb, and-T, T-and}
 
 -- ---- where there is no start, there is a state
@@ -20,10 +22,10 @@ nth-there h (suc k) n = ⊎-elim (λ g. (omega arith, g))
     (λ g. absurd (n (ap (λ s. s .event) (List·getD-eq-default h noState (omega arith))))) (le-or-lt (suc k) (length h))
 
 pub send-start : {m : Message} → Send m ≢ Start
-send-start e = let z : _≡_ {A = ℕ} 0 1 = cc in omega arith
+send-start e = never (cc)
 
 pub receive-start : {m : Message} → Receive m ≢ Start
-receive-start e = let z : _≡_ {A = ℕ} 0 1 = cc in omega arith
+receive-start e = never (cc)
 
 module _ {r : Run} where
   there : {i k : ℕ} → into r i k ≢ Start → IsState r i k

@@ -10,9 +10,12 @@ use lib.Dec.{T}
 use lib.ListN.{length, getD, take, length-take}
 use lib.Seq.{take-take, getD-take}
 use Rattle.model.specs.declared.Message.{Message}
-use Rattle.model.specs.Run.{Run, State, noState, nth, state, into, history, channel, processes, sending, paired, Known}
-use Rattle.model.specs.Cut.{at, IsCut, ByMessage, onChannel, sends, waiting, upTo, between, inTransit, SameUpTo}
-use Rattle.model.specs.Clause.{holds, compares, passes, Clause, Linear, Satisfies, First}
+use Rattle.model.specs.Run.{Run, State, noState, nth, state, into, history, channel, processes, sending, paired}
+use Rattle.model.specs.Known.{Known}
+use Rattle.model.specs.Cut.{at, IsCut, ByMessage, onChannel, sends, waiting, upTo, between, inTransit}
+use Rattle.model.specs.Same.{SameUpTo}
+use Rattle.model.specs.Clause.{holds, compares, passes, Clause, Satisfies, First}
+use Rattle.model.specs.Linear.{Linear}
 use Rattle.model.specs.Clause.Clause.{local, on}
 use Rattle.model.proofs.Order.{consistent-by-message}
 use Rattle.model.proofs.Lattice.{lower, at-lower, lower-satisfies}

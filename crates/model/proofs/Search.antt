@@ -16,9 +16,12 @@ use Rattle.model.proofs.Lists.{le-or-lt, every-mem}
 use Rattle.model.proofs.Order.{before-up, consistent-by-clock, target}
 use Rattle.model.proofs.Pairing.{process-there}
 use Rattle.model.proofs.Transit.{sender-stays, receiver-stays}
-use Rattle.model.specs.Run.{Known, Run, channel, count, processes, state}
-use Rattle.model.specs.Cut.{Before, ByClock, Clocks, Consistent, IsCut, at, between, inTransit}
-use Rattle.model.specs.Clause.{Comparison, compares, Test, passes, mover, Clause, holds, Linear, Satisfies, First}
+use Rattle.model.specs.Run.{Run, channel, count, processes, state}
+use Rattle.model.specs.Known.{Known}
+use Rattle.model.specs.Cut.{Before, Consistent, IsCut, at, between, inTransit}
+use Rattle.model.specs.Clocks.{ByClock, Clocks}
+use Rattle.model.specs.Clause.{Comparison, compares, Test, passes, mover, Clause, holds, Satisfies, First}
+use Rattle.model.specs.Linear.{Linear}
 use Rattle.model.specs.Clause.Clause.{local, on}
 use Rattle.model.specs.declared.Mover.the-variants.{Sender, Receiver}
 

@@ -7,10 +7,12 @@ use Prim.Native.Nat.{ℕ, zero, suc, _<_}
 use native.Mathlib.Omega.{arith}
 use lib.Dec.{T, T-not, eqb, ltb, eqb→eq, ltb→lt}
 use lib.ListN.{length}
+use Rattle.model.proofs.Numbers.{never}
 use Rattle.model.specs.declared.Message.{Message}
 use Rattle.model.specs.declared.Event.{Event}
 use Rattle.model.specs.declared.Event.the-variants.{Start, Internal, Send, Receive}
-use Rattle.model.specs.Run.{Run, into, channel, processes, count, IsState, sending, receiving, sameMessage, paired, Known}
+use Rattle.model.specs.Run.{Run, into, channel, processes, count, IsState, sending, receiving, sameMessage, paired}
+use Rattle.model.specs.Known.{Known}
 use Rattle.model.specs.Cut.{someUpTo}
 use Rattle.model.proofs.Lists.{eq→eqb, and-T, T-and, or-T, everyBelow, every-below, some-at}
 use Rattle.model.proofs.Pairing.{sent-there, received-there, process-there}
@@ -49,9 +51,9 @@ module _ (r : Run) (t : T (known? r)) where
 
   start : (i k : ℕ) (e : Event) → T (fits r i k e) → (e ≡ Start) ↔ (k ≡ 1)
   start i k Start u = (λ h. eqb→eq k 1 u, λ h. refl)
-  start i k Internal u = (λ h. let z : _≡_ {A = ℕ} 0 1 = cc in absurd (omega arith), λ h. absurd (T-not (eqb k 1) u (eq→eqb k 1 h)))
-  start i k (Send m) u = (λ h. let z : _≡_ {A = ℕ} 0 1 = cc in absurd (omega arith), λ h. absurd (T-not (eqb k 1) (and-T (not (eqb k 1)) _ u .0) (eq→eqb k 1 h)))
-  start i k (Receive m) u = (λ h. let z : _≡_ {A = ℕ} 0 1 = cc in absurd (omega arith), λ h. absurd (T-not (eqb k 1) (and-T (not (eqb k 1)) _ u .0) (eq→eqb k 1 h)))
+  start i k Internal u = (λ h. never (cc), λ h. absurd (T-not (eqb k 1) u (eq→eqb k 1 h)))
+  start i k (Send m) u = (λ h. never (cc), λ h. absurd (T-not (eqb k 1) (and-T (not (eqb k 1)) _ u .0) (eq→eqb k 1 h)))
+  start i k (Receive m) u = (λ h. never (cc), λ h. absurd (T-not (eqb k 1) (and-T (not (eqb k 1)) _ u .0) (eq→eqb k 1 h)))
 
   sends : (i k : ℕ) (m : Message) → into r i k ≡ Send m → (m .channel < length (r .channels)) × (channel r (m .channel) .from ≡ i) × T (once? r sending i k)
   sends i k m e =

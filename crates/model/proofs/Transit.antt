@@ -9,14 +9,15 @@ use native.Mathlib.Nat.{le-antisymm}
 use native.Mathlib.Decide.{le-ind}
 use native.Mathlib.Omega.{arith}
 use borrow.Author.Tests.{ltb-true, ltb-false}
-use lib.Dec.{T, ltb, leb, eqb, leb→le, le→leb, eqb→eq}
+use lib.Dec.{T, ltb, leb, leb→le, le→leb, eqb→eq}
 use lib.ListN.{length}
 use Rattle.model.specs.declared.Message.{Message}
 use Rattle.model.specs.declared.Mover.{Mover}
 use Rattle.model.specs.declared.Mover.the-variants.{Sender, Receiver, NotLinear}
 use Rattle.model.specs.Run.{Run, channel, paired}
 use Rattle.model.specs.Cut.{sends, waiting, add, upTo, between}
-use Rattle.model.specs.Clause.{Test, passes, mover, linear}
+use Rattle.model.specs.Clause.{Test, passes, mover}
+use Rattle.model.specs.Linear.{linear}
 use Rattle.model.specs.Clause.Clause.{on}
 use Rattle.model.specs.Clause.Test.{countAtMost, countAtLeast, countIs, stampIs, noStampIs, everyAtLeast, someAtMost, countOdd, countOther}
 use Rattle.model.proofs.Lists.{eq→eqb, T-or, some-more, every-fewer, fewer-length}

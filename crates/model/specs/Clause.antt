@@ -1,4 +1,4 @@
--- Clauses, who has to move, and the first and the last satisfying cut.
+-- Clauses, who has to move, and the first satisfying cut.
 use mathlib.Core.Bool.{Bool, true, false, not, _&&_, _||_, cond}
 use mathlib.Core.List.{List, [], _∷_, List·Memᴰ}
 use Prim.Native.Nat.{ℕ, _%_, _≤_}
@@ -74,14 +74,6 @@ unfoldable pub holds : Run → List ℕ → Clause → Bool
 holds r cut (local i v o x) = compares o (getD (state r i (at cut i) .values) v (pos 0)) x
 holds r cut (on c t) = passes t (inTransit r cut c)
 
--- a test is linear if it says who has to move, and a condition if each of its tests is
-abbrev pub linear : Clause → Bool
-linear (local i v o x) = true
-linear (on c t) = elim (mover t 0) [ Sender ↦ true | Receiver ↦ true | NotLinear ↦ false ]
-
-abbrev pub Linear : List Clause → Type 0
-Linear cond = T (everyOf linear cond)
-
 -- the cut is consistent and every clause holds there
 pub record Satisfies (r : Run) (cond : List Clause) (cut : List ℕ) : Type 0 where
   pub isCut : IsCut r cut
@@ -92,8 +84,3 @@ pub record Satisfies (r : Run) (cond : List Clause) (cut : List ℕ) : Type 0 wh
 pub record First (r : Run) (cond : List Clause) (cut : List ℕ) : Type 0 where
   pub satisfies : Satisfies r cond cut
   pub least : (d : List ℕ) → Satisfies r cond d → (i : ℕ) → at cut i ≤ at d i
-
--- at or above every satisfying cut in each place
-pub record Last (r : Run) (cond : List Clause) (cut : List ℕ) : Type 0 where
-  pub satisfies : Satisfies r cond cut
-  pub most : (d : List ℕ) → Satisfies r cond d → (i : ℕ) → at d i ≤ at cut i

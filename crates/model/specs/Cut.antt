@@ -6,10 +6,10 @@ use mathlib.Core.List.{List, [], _∷_}
 use mathlib.Core.Option.{Option, some, none}
 use Prim.Native.Nat.{ℕ, zero, suc, _≤_, _<_}
 use lib.Dec.{eqb}
-use lib.ListN.{length, getD, take}
+use lib.ListN.{length, getD}
 use Rattle.model.specs.declared.Message.{Message}
 use Rattle.model.specs.declared.Event.the-variants.{Receive}
-use Rattle.model.specs.Run.{Run, processes, history, into, channel, IsState, sending, paired, Paired}
+use Rattle.model.specs.Run.{Run, processes, into, channel, IsState, sending, paired, Paired}
 
 -- state k of process i is before state l of process j: the smallest transitive relation in which each state is before the next of its process,
 -- and the state just ahead of a send is before the state that its receive leads into
@@ -43,14 +43,6 @@ pub record IsCut (r : Run) (cut : List ℕ) : Type 0 where
 -- no chosen state is before another
 unfoldable pub Consistent : Run → List ℕ → Type 0
 Consistent r cut = (i j : ℕ) → i ≢ j → ¬ Before r i (at cut i) j (at cut j)
-
--- clock j l i is place i of the clock at state l of process j, for every state
-unfoldable pub Clocks : Run → (ℕ → ℕ → ℕ → ℕ) → Type 0
-Clocks r clock = (j l i : ℕ) → IsState r j l → i < processes r → ClockIs r j l i (clock j l i)
-
--- for all i and j that differ, place i of j's clock is less than i's chosen number
-unfoldable pub ByClock : Run → (ℕ → ℕ → ℕ → ℕ) → List ℕ → Type 0
-ByClock r clock cut = (i j : ℕ) → i < processes r → j < processes r → i ≢ j → clock j (at cut j) i < at cut i
 
 -- each message received up to the cut was sent up to it
 unfoldable pub ByMessage : Run → List ℕ → Type 0
@@ -89,9 +81,3 @@ between r c a b = upTo (waiting r c b) a
 -- the messages on channel c at a cut, consistent or not
 unfoldable pub inTransit : Run → List ℕ → ℕ → List Message
 inTransit r cut c = between r c (at cut (channel r c .from)) (at cut (channel r c .to))
-
--- the same stations and channels, and the same states up to the cut
-pub record SameUpTo (cut : List ℕ) (r s : Run) : Type 0 where
-  pub channels : r .channels ≡ s .channels
-  pub processes : processes r ≡ processes s
-  pub states : (i : ℕ) → take (at cut i) (history r i) ≡ take (at cut i) (history s i)

@@ -1,3 +1,9 @@
 pub mod Run
 pub mod Cut
 pub mod Clause
+pub mod Known
+pub mod Clocks
+pub mod Linear
+pub mod Same
+pub mod Last
+pub mod Total

@@ -15,13 +15,11 @@ abbrev pub bytesOf : File → List ℕ → List ℕ → List ℕ
 bytesOf Run run condition = run
 bytesOf Condition run condition = condition
 
--- 1 and everything from 15 on is of no record
-unfoldable pub hasRecord : ℕ → Bool
-hasRecord n = not (eqb n (number tooLong)) && ltb n (number noRoom)
-
--- all to the end of the file for a record after the end, or where the two bytes of a length aren't left; else the stated length, which `take` cuts at the end of the file
+-- all to the end of the file for a record after the end, or where the two bytes of a length aren't left; else the stated length, which `take` cuts
+-- at the end of the file
 unfoldable pub recordShown : List ℕ → ℕ → Bool → List ℕ
 recordShown s at after = cond (after || ltb (length s - at) 2) (drop at s) (take (lengthAt s at) (drop at s))
 
+-- 1 and everything from 15 on is of no record
 abbrev pub shownOf : List ℕ → List ℕ → Refusal → List ℕ
-shownOf run condition r = cond (hasRecord (r .number)) (recordShown (bytesOf (r .file) run condition) (r .place) (r .after)) []
+shownOf run condition r = cond (not (eqb (r .number) (number tooLong)) && ltb (r .number) (number noRoom)) (recordShown (bytesOf (r .file) run condition) (r .place) (r .after)) []

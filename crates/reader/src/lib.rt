@@ -1,4 +1,5 @@
-// A reader of the run: the lent bytes together with a place. Each function is thin, and leaves the work to the reading step over bytes and a place apart. `shown` gives the bytes of a refused record.
+// A reader of the run: the lent bytes together with a place. Each function is thin, and leaves the work to the reading step over bytes and a place
+// apart. `shown` gives the bytes of a refused record.
 pub mod shown;
 
 use record::Step;

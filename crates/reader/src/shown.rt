@@ -7,7 +7,8 @@ use record::reasons::NO_ROOM;
 use record::reasons::TOO_LONG;
 ghost use mathlib.Core.Path.{_≡_};
 ghost use lib.ListN.{take, drop};
-ghost use Rattle.reader.specs.Shown.{bytesOf, hasRecord, recordShown, shownOf};
+ghost use Rattle.reader.specs.Shown.{bytesOf, recordShown, shownOf};
+ghost use Rattle.reader.specs.Inner.{hasRecord};
 
 // Whether a refusal of this number is of a record, and so has bytes to show.
 fn has_record(number: u16) -> bool

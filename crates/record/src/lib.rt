@@ -1,5 +1,6 @@
-// Bytes to records: numbers, refusals, and the reading step. Nothing here needs the records that came before.
+// Bytes to records: numbers, the layout, refusals, and the reading step. Nothing here needs the records that came before.
 pub mod bytes;
+pub mod layout;
 pub mod reading;
 pub mod reasons;
 
@@ -22,14 +23,14 @@ pub struct Head {
     pub channels: u16,
 }
 
-pub struct Line {
+pub struct ChannelFields {
     pub number: u16,
     pub from: u16,
     pub to: u16,
 }
 
 // The fields of a state record as they stand there.
-pub struct Fields {
+pub struct StateFields {
     pub process: u16,
     pub event: u16,
     pub channel: u16,
@@ -39,8 +40,8 @@ pub struct Fields {
 
 pub enum Record {
     Head(Head),
-    Channel(Line),
-    State(Fields),
+    Channel(ChannelFields),
+    State(StateFields),
     End,
 }
 

@@ -1,13 +1,17 @@
 // The reading step over bytes and a place apart.
-use crate::Fields;
+use crate::ChannelFields;
 use crate::File;
 use crate::Head;
-use crate::Line;
 use crate::Record;
+use crate::StateFields;
 use crate::Step;
 use crate::bytes::left_from;
 use crate::bytes::u16_at;
 use crate::bytes::u32_at;
+use crate::layout::CHANNEL_LENGTH;
+use crate::layout::HEAD_LENGTH;
+use crate::layout::state_length;
+use crate::layout::states_place;
 use crate::reasons::CUT_SHORT;
 use crate::reasons::FORMAT;
 use crate::reasons::KIND;
@@ -17,20 +21,19 @@ use crate::reasons::refusal_of;
 ghost use mathlib.Core.Path.{_≡_};
 ghost use Prim.Native.Nat.{_+_, _≤_};
 ghost use lib.ListN.{length};
-ghost use Rattle.record.specs.Record.{lengthOf, frameNo, headOf, due, openingNo, stepNo, lineAt, fieldsAt, recordAt, stepAt};
+ghost use Rattle.record.specs.Layout.{channelLength};
+ghost use Rattle.record.specs.Inner.{valuesPlace};
+ghost use Rattle.record.specs.Record.{lengthOf, frameNo, headOf, due, openingNo, stepNo, channelFieldsAt, stateFieldsAt, recordAt, stepAt};
 
-// The length that the paper's table gives a kind, in a run of n processes; 0 for an unknown kind.
-pub fn length_of(kind: u16, n: u16) -> usize
-    ensures { λ r. ⌜ r ≡ lengthOf kind n ⌝ }
+// The length that the paper's table gives a kind of a run; 0 for any other kind.
+pub fn length_of(kind: u16, head: Head) -> usize
+    ensures { λ r. ⌜ r ≡ lengthOf kind head ⌝ }
 {
     match kind {
-        1 => 10,
-        2 => 10,
-        3 => 34 + 2 * (n as usize),
+        1 => HEAD_LENGTH,
+        2 => CHANNEL_LENGTH,
+        3 => state_length(head),
         4 => 4,
-        16 => 6,
-        17 => 14,
-        18 => 12,
         _ => 0,
     }
 }
@@ -52,7 +55,7 @@ pub fn frame_no(s: &[u8], at: usize) -> u16
 pub fn head_of(run: &[u8]) -> Head
     ensures { λ r. ⌜ r ≡ headOf (now (run .entry)) ⌝ }
 {
-    if run.len() < 10 {
+    if run.len() < HEAD_LENGTH {
         return Head {
             processes: 0,
             channels: 0,
@@ -67,20 +70,21 @@ pub fn head_of(run: &[u8]) -> Head
 }
 
 // Whether a kind may stand at a place: the head, then the channels, then states and the end.
-pub fn is_due(channels: u16, at: usize, kind: u16) -> bool
-    ensures { λ r. ⌜ r ≡ due channels at kind ⌝ }
+pub fn is_due(head: Head, at: usize, kind: u16) -> bool
+    ensures { λ r. ⌜ r ≡ due head at kind ⌝ }
 {
     if at == 0 {
         return kind == 1;
     }
-    if at < 10 + 10 * (channels as usize) {
+    if at < states_place(head) {
         return kind == 2;
     }
     (kind == 3) | (kind == 4)
 }
 
 // 2, 3, 2, 4, 3: the frame, the kind, the kind's length.
-pub fn opening_no(run: &[u8], at: usize) -> u16
+pub fn opening_no(run: &[u8], head: Head, at: usize) -> u16
+    requires { ⌜ head ≡ headOf (now run) ⌝ }
     ensures { λ r. ⌜ r ≡ openingNo (now (run .entry)) at ⌝ }
 {
     let frame = frame_no(run, at);
@@ -89,16 +93,16 @@ pub fn opening_no(run: &[u8], at: usize) -> u16
     }
     let length = u16_at(run, at) as usize;
     let kind = u16_at(run, at + 2);
-    let head = head_of(run);
-    let number = or_if(0, !is_due(head.channels, at, kind), KIND);
-    or_if(number, length != length_of(kind, head.processes), LENGTH)
+    let number = or_if(0, !is_due(head, at, kind), KIND);
+    or_if(number, length != length_of(kind, head), LENGTH)
 }
 
 // The same, then 6.
-pub fn step_no(run: &[u8], at: usize) -> u16
+pub fn step_no(run: &[u8], head: Head, at: usize) -> u16
+    requires { ⌜ head ≡ headOf (now run) ⌝ }
     ensures { λ r. ⌜ r ≡ stepNo (now (run .entry)) at ⌝ }
 {
-    let opening = opening_no(run, at);
+    let opening = opening_no(run, head, at);
     if opening != 0 {
         return opening;
     }
@@ -108,26 +112,26 @@ pub fn step_no(run: &[u8], at: usize) -> u16
     or_if(0, u16_at(run, at + 4) != 1, FORMAT)
 }
 
-fn line_at(run: &[u8], at: usize) -> Line
-    requires { ⌜ at + 10 ≤ length (now run) ⌝ }
-    ensures { λ r. ⌜ r ≡ lineAt (now (run .entry)) at ⌝ }
+fn channel_fields_at(run: &[u8], at: usize) -> ChannelFields
+    requires { ⌜ at + channelLength ≤ length (now run) ⌝ }
+    ensures { λ r. ⌜ r ≡ channelFieldsAt (now (run .entry)) at ⌝ }
 {
     let number = u16_at(run, at + 4);
     let from = u16_at(run, at + 6);
     let to = u16_at(run, at + 8);
-    Line { number, from, to }
+    ChannelFields { number, from, to }
 }
 
-pub fn fields_at(run: &[u8], at: usize) -> Fields
-    requires { ⌜ at + 18 ≤ length (now run) ⌝ }
-    ensures { λ r. ⌜ r ≡ fieldsAt (now (run .entry)) at ⌝ }
+pub fn state_fields_at(run: &[u8], at: usize) -> StateFields
+    requires { ⌜ at + valuesPlace ≤ length (now run) ⌝ }
+    ensures { λ r. ⌜ r ≡ stateFieldsAt (now (run .entry)) at ⌝ }
 {
     let process = u16_at(run, at + 4);
     let event = u16_at(run, at + 6);
     let channel = u16_at(run, at + 8);
     let message = u32_at(run, at + 10);
     let stamp = u32_at(run, at + 14);
-    Fields {
+    StateFields {
         process,
         event,
         channel,
@@ -137,15 +141,15 @@ pub fn fields_at(run: &[u8], at: usize) -> Fields
 }
 
 // What stands in the record at a place, whose opening is right.
-fn record_at(run: &[u8], at: usize) -> Record
-    requires { ⌜ openingNo (now run) at ≡ 0 ⌝ }
+fn record_at(run: &[u8], head: Head, at: usize) -> Record
+    requires { ⌜ (head ≡ headOf (now run)) × (openingNo (now run) at ≡ 0) ⌝ }
     ensures { λ r. ⌜ r ≡ recordAt (now (run .entry)) at ⌝ }
 {
     let kind = u16_at(run, at + 2);
     match kind {
-        1 => Record::Head(head_of(run)),
-        2 => Record::Channel(line_at(run, at)),
-        3 => Record::State(fields_at(run, at)),
+        1 => Record::Head(head),
+        2 => Record::Channel(channel_fields_at(run, at)),
+        3 => Record::State(state_fields_at(run, at)),
         _ => Record::End,
     }
 }
@@ -154,11 +158,19 @@ fn record_at(run: &[u8], at: usize) -> Record
 pub fn step(run: &[u8], at: usize) -> Step
     ensures { λ r. ⌜ r ≡ stepAt (now (run .entry)) at ⌝ }
 {
-    let number = step_no(run, at);
+    step_beside(run, head_of(run), at)
+}
+
+// The same beside the run's head, which a pass reads once.
+pub fn step_beside(run: &[u8], head: Head, at: usize) -> Step
+    requires { ⌜ head ≡ headOf (now run) ⌝ }
+    ensures { λ r. ⌜ r ≡ stepAt (now (run .entry)) at ⌝ }
+{
+    let number = step_no(run, head, at);
     if number != 0 {
         return Step::Refused(refusal_of(File::Run, number, at));
     }
     let next = at + u16_at(run, at) as usize;
-    let record = record_at(run, at);
+    let record = record_at(run, head, at);
     Step::Got(record, next)
 }

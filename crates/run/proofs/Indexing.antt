@@ -11,28 +11,29 @@ use borrow.Author.Tests.{eq-eqb, ne-eqb}
 use lib.Dec.{eqb}
 use lib.ListN.{length, getD, set, take, length-set, length-append, List·getD-append}
 use lib.Seq.{ext-getD, getD-set-same, getD-set-other, getD-append-seam, getD-take, length-take-le, take-set-lt, take-set-le}
-use Rattle.record.specs.Record.{fieldsAt}
-use Rattle.run.specs.States.{put, placesOf}
+use Rattle.record.specs.Record.{stateFieldsAt}
+use Rattle.states.specs.States.{placesOf}
+use Rattle.run.proofs.Places.{put}
 use Rattle.run.specs.Read.{countsOf}
-use Rattle.run.specs.Tables.{Indexed, Fresh}
-use Rattle.run.proofs.Tabulate.{tabulate-length, tabulate-at}
+use Rattle.run.specs.Index.{Indexed, Fresh}
+use Rattle.states.proofs.Tabulate.{tabulate-length, tabulate-at}
 
-places-snoc : (s qs : List ℕ) (q p : ℕ) → placesOf s (qs ++ (q ∷ [])) p ≡ placesOf s qs p ++ put (eqb (fieldsAt s q .process) p) q []
+places-snoc : (s qs : List ℕ) (q p : ℕ) → placesOf s (qs ++ (q ∷ [])) p ≡ placesOf s qs p ++ put (eqb (stateFieldsAt s q .process) p) q []
 unfolding placesOf
 places-snoc s [] q p = refl
-places-snoc s (x ∷ qs) q p = go (eqb (fieldsAt s x .process) p) (places-snoc s qs q p)
+places-snoc s (x ∷ qs) q p = go (eqb (stateFieldsAt s x .process) p) (places-snoc s qs q p)
   where
     zs : List ℕ
-    zs = put (eqb (fieldsAt s q .process) p) q []
+    zs = put (eqb (stateFieldsAt s q .process) p) q []
 
     go : (t : Bool) → placesOf s (qs ++ (q ∷ [])) p ≡ placesOf s qs p ++ zs → put t x (placesOf s (qs ++ (q ∷ [])) p) ≡ put t x (placesOf s qs p) ++ zs
     go true e = ap (λ l. x ∷ l) e
     go false e = e
 
-pub places-same : (s qs : List ℕ) (q p : ℕ) → fieldsAt s q .process ≡ p → placesOf s (qs ++ (q ∷ [])) p ≡ placesOf s qs p ++ (q ∷ [])
+pub places-same : (s qs : List ℕ) (q p : ℕ) → stateFieldsAt s q .process ≡ p → placesOf s (qs ++ (q ∷ [])) p ≡ placesOf s qs p ++ (q ∷ [])
 places-same s qs q p e = places-snoc s qs q p ∙ simp (eq-eqb _ p e)
 
-pub places-other : (s qs : List ℕ) (q p : ℕ) → (fieldsAt s q .process ≡ p → ⊥) → placesOf s (qs ++ (q ∷ [])) p ≡ placesOf s qs p
+pub places-other : (s qs : List ℕ) (q p : ℕ) → (stateFieldsAt s q .process ≡ p → ⊥) → placesOf s (qs ++ (q ∷ [])) p ≡ placesOf s qs p
 places-other s qs q p n = places-snoc s qs q p ∙ simp (ne-eqb _ p n, append-nil)
 
 pub counts-at : (s qs : List ℕ) (p : ℕ) → p < 8 → getD (countsOf s qs) p 0 ≡ length (placesOf s qs p)
@@ -48,7 +49,7 @@ pub counts-eight : (ix : List ℕ) → length ix ≡ 40968 → length (take 8 ix
 counts-eight ix e = length-take-le 8 ix (omega (arith, e))
 
 -- process p has one state more, at the place at
-module _ (s qs ix : List ℕ) (at p : ℕ) (own : fieldsAt s at .process ≡ p) (w : Indexed s qs ix) (row : p < 8) where
+module _ (s qs ix : List ℕ) (at p : ℕ) (own : stateFieldsAt s at .process ≡ p) (w : Indexed s qs ix) (row : p < 8) where
   abbrev n : ℕ
   n = getD ix p 0
 
@@ -110,7 +111,8 @@ module _ (s qs ix : List ℕ) (at p : ℕ) (own : fieldsAt s at .process ≡ p) 
           before : i < n → getD mid (8 + (512 * p + i)) 0 ≡ getD (placesOf s qs p ++ (at ∷ [])) i 0
           before h =
               let b : i < length (placesOf s qs p) = omega (arith, here) in
-              getD-set-other ix (8 + (512 * p + n)) (8 + (512 * p + i)) at 0 (λ z. omega arith) ∙ w .placed p i row b ∙ sym (List·getD-append (placesOf s qs p) (at ∷ []) 0 i b)
+              getD-set-other ix (8 + (512 * p + n)) (8 + (512 * p + i)) at 0 (λ z. omega arith) ∙ w .placed p i row b
+              ∙ sym (List·getD-append (placesOf s qs p) (at ∷ []) 0 i b)
 
   pub index-more : length ix ≡ 40968 → n < 512 → Indexed s qs′ (set mid p (n + 1))
   index-more long room = record {

@@ -1,17 +1,15 @@
 -- A write to one part of the index leaves what the lower parts hold.
-use mathlib.Core.Path.{_≡_, refl, sym, ap, _∙_, subst}
+use mathlib.Core.Path.{_≡_, refl, sym, _∙_, subst}
 use mathlib.Core.Logic.{_⊎_}
 use mathlib.Core.List.{List}
 use Prim.Native.Nat.{ℕ, _+_, _*_, _≤_, _<_}
 use native.Mathlib.Omega.{arith}
-use lib.ListN.{length, getD, set, take, length-set}
+use lib.ListN.{getD, set, take, length-set}
 use lib.Seq.{ext-getD, getD-set-other, getD-take}
-use Rattle.model.specs.declared.Message.{Message}
-use Rattle.model.specs.declared.Event.the-variants.{Send}
-use Rattle.model.specs.Run.{Run, into, channel, IsState, Paired}
+use Rattle.model.specs.Run.{channel, IsState, Paired}
 use Rattle.model.proofs.Pairing.{view, sent-there, received-there}
-use Rattle.run.specs.Said.{statesOf, runIn}
-use Rattle.run.specs.Tables.{slot, partnerAt, HasSlot, Listed, Partnered, Matched, Kept}
+use Rattle.run.specs.Said.{runIn}
+use Rattle.run.specs.Index.{partnerAt, Listed, Partnered, Matched, Kept}
 use Rattle.run.proofs.Indexing.{counts-eight}
 use Rattle.run.proofs.Listed.{listed-slot}
 
@@ -41,7 +39,9 @@ kept-listed {s} {ix} {ix′} k w = record {
   where
     counts : take 8 ix′ ≡ take 8 ix
     counts = ext-getD 0 (take 8 ix′) (take 8 ix) (counts-eight ix′ (k .long ∙ w .long) ∙ sym (counts-eight ix (w .long)))
-        (λ i h. let l : i < 8 = omega (arith, counts-eight ix′ (k .long ∙ w .long)) in getD-take 8 ix′ i 0 l ∙ k .same i (omega arith) ∙ sym (getD-take 8 ix i 0 l))
+        (λ i h.
+        let l : i < 8 = omega (arith, counts-eight ix′ (k .long ∙ w .long)) in
+        getD-take 8 ix′ i 0 l ∙ k .same i (omega arith) ∙ sym (getD-take 8 ix i 0 l))
 
 -- the partners stay where nothing below 8200 is written
 pub kept-partnered : {s ix ix′ : List ℕ} → Kept 8200 ix ix′ → Listed s ix → Partnered (runIn s) ix → Partnered (runIn s) ix′
@@ -55,4 +55,8 @@ kept-partnered {s} {ix} {ix′} k w v = record {
     same i n t = let h = listed-slot s ix w t in k .same (partnerAt i n) (omega (arith, h .process, h .counted, h .few))
 
 pub kept-matched : {s ix ix′ : List ℕ} → Kept 8200 ix ix′ → Matched s ix → Matched s ix′
-kept-matched k w = record { listed = kept-listed (kept-less (omega arith) k) (w .listed); known = w .known; partners = kept-partnered k (w .listed) (w .partners) }
+kept-matched k w = record {
+  listed = kept-listed (kept-less (omega arith) k) (w .listed);
+  known = w .known;
+  partners = kept-partnered k (w .listed) (w .partners);
+}

@@ -1,9 +1,8 @@
-pub mod Laws
-pub mod Tabulate
 pub mod Indexing
-pub mod Here
+pub mod SoFar
 pub mod Places
 pub mod Accepted
 pub mod Sides
 pub mod Listed
 pub mod Kept
+pub mod Clocks

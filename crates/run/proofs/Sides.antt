@@ -8,17 +8,50 @@ use native.Mathlib.Omega.{arith}
 use borrow.Author.Tests.{eqb-true, eqb-false}
 use lib.Dec.{eqb}
 use lib.ListN.{length, getD, take, length-map}
+use Rattle.model.proofs.Numbers.{never}
 use Rattle.model.specs.declared.Message.{Message}
+use Rattle.model.specs.declared.Event.{Event}
 use Rattle.model.specs.declared.Event.the-variants.{Start, Internal, Send, Receive}
-use Rattle.model.specs.Run.{noState, processes, history, count, state, into, channel, IsState, Sides}
+use Rattle.model.specs.Run.{noState, processes, history, count, state, into, channel, IsState}
+use Rattle.model.specs.Known.{Sides}
 use Rattle.model.proofs.Pairing.{process-there, sent-there, received-there}
-use Rattle.record.specs.Record.{headOf, fieldsAt}
-use Rattle.record.specs.declared.Fields.{Fields}
-use Rattle.run.specs.States.{messageOf, eventOf, stateAt, channelAt, placesOf, tabulate, runOf}
-use Rattle.run.proofs.Laws.{StateOk}
-use Rattle.run.proofs.Tabulate.{tabulate-length, tabulate-at, map-at}
+use Rattle.record.specs.Record.{headOf, stateFieldsAt}
+use Rattle.record.specs.declared.StateFields.{StateFields}
+use Rattle.states.specs.States.{messageOf, eventOf, stateAt, channelAt, placesOf, runOf}
+use Rattle.states.proofs.Laws.{StateOk}
+use Rattle.states.proofs.Tabulate.{tabulate-length, tabulate-at, map-at}
 use Rattle.run.proofs.Places.{StandsAt, stands}
 use Rattle.run.proofs.Accepted.{Accepted}
+
+-- ---- what the event of a record says of its fields
+
+by-event : (f : StateFields) (P : Event → Type 0) → (f .event ≡ 0 → P Start) → P Internal → (f .event ≡ 2 → P (Send (messageOf f)))
+    → ((f .event ≡ 0 → ⊥) → (f .event ≡ 1 → ⊥) → (f .event ≡ 2 → ⊥) → P (Receive (messageOf f))) → P (eventOf f)
+unfolding eventOf
+by-event f P start internal send receive = go (eqb (f .event) 0) refl (eqb (f .event) 1) refl (eqb (f .event) 2) refl
+  where
+    go : (x : Bool) → eqb (f .event) 0 ≡ x → (y : Bool) → eqb (f .event) 1 ≡ y → (z : Bool) → eqb (f .event) 2 ≡ z
+        → P (cond x Start (cond y Internal (cond z (Send (messageOf f)) (Receive (messageOf f)))))
+    go true a y b z d = start (eqb-true _ 0 a)
+    go false a true b z d = internal
+    go false a false b true d = send (eqb-true _ 2 d)
+    go false a false b false d = receive (eqb-false _ 0 a) (eqb-false _ 1 b) (eqb-false _ 2 d)
+
+event-start : (f : StateFields) → eventOf f ≡ Start → f .event ≡ 0
+event-start f = by-event f (λ x. x ≡ Start → f .event ≡ 0) (λ a e. a) (λ e. never (cc)) (λ a e. never (cc)) (λ a b d e. never (cc))
+
+start-event : (f : StateFields) → f .event ≡ 0 → eventOf f ≡ Start
+unfolding eventOf
+start-event f e = simp e
+
+event-send : (f : StateFields) (m : Message) → eventOf f ≡ Send m → (f .event ≡ 2) × (m ≡ messageOf f)
+event-send f m = by-event f (λ x. x ≡ Send m → (f .event ≡ 2) × (m ≡ messageOf f))
+    (λ a e. never (cc)) (λ e. never (cc)) (λ a e. (a, cc)) (λ a b d e. never (cc))
+
+-- of a record whose event is known
+event-receive : (f : StateFields) (m : Message) → f .event < 4 → eventOf f ≡ Receive m → (f .event ≡ 3) × (m ≡ messageOf f)
+event-receive f m l = by-event f (λ x. x ≡ Receive m → (f .event ≡ 3) × (m ≡ messageOf f))
+    (λ a e. never (cc)) (λ e. never (cc)) (λ a e. never (cc)) (λ a b d e. (omega arith, cc))
 
 module _ (s qs : List ℕ) where
   -- ---- the run's parts
@@ -55,70 +88,29 @@ module _ (s qs : List ℕ) where
 
   module _ (ok : Accepted s qs) where
     -- what is known of state k + 1 of process p: it stands at record i of the file
-    pub record Judged (p k : ℕ) : Type 0 where
+    pub record StateJudged (p k : ℕ) : Type 0 where
       pub record-number : ℕ
       pub stand : StandsAt s qs p k record-number
-      pub event : into (runOf s qs) p (suc k) ≡ eventOf (fieldsAt s (getD (placesOf s qs p) k 0))
-      pub right : StateOk s k (fieldsAt s (getD (placesOf s qs p) k 0))
-      pub process : fieldsAt s (getD (placesOf s qs p) k 0) .process ≡ p
+      pub event : into (runOf s qs) p (suc k) ≡ eventOf (stateFieldsAt s (getD (placesOf s qs p) k 0))
+      pub right : StateOk s k (stateFieldsAt s (getD (placesOf s qs p) k 0))
+      pub process : stateFieldsAt s (getD (placesOf s qs p) k 0) .process ≡ p
 
-    pub state-judged : (p k : ℕ) → IsState (runOf s qs) p (suc k) → Judged p k
+    pub state-judged : (p k : ℕ) → IsState (runOf s qs) p (suc k) → StateJudged p k
     unfolding into stateAt
     state-judged p k w =
         let h = run-process w in
         let l : k < length (placesOf s qs p) = omega (arith, w .there, run-count p h) in
         let (i, st) = stands s qs p k l in
-        let own : fieldsAt s (getD (placesOf s qs p) k 0) .process ≡ p = subst (λ q. fieldsAt s q .process ≡ p) (st .place) (st .process) in
+        let own : stateFieldsAt s (getD (placesOf s qs p) k 0) .process ≡ p = subst (λ q. stateFieldsAt s q .process ≡ p) (st .place) (st .process) in
         let right = ok .states i (st .there) .right in
         record {
           record-number = i;
           stand = st;
           event = ap (λ x. x .event) (run-state p k h l);
-          right = subst (λ q. StateOk s k (fieldsAt s q)) (st .place) (subst (λ n. StateOk s n (fieldsAt s (getD qs i 0)))
+          right = subst (λ q. StateOk s k (stateFieldsAt s q)) (st .place) (subst (λ n. StateOk s n (stateFieldsAt s (getD qs i 0)))
               (ap (λ x. length (placesOf s (take i qs) x)) (st .process) ∙ st .number) right);
           process = own;
         }
-
-  -- ---- what the event of a record says of its fields
-
-  pub event-start : (f : Fields) → eventOf f ≡ Start → f .event ≡ 0
-  unfolding eventOf
-  event-start f e = go (eqb (f .event) 0) refl (eqb (f .event) 1) (eqb (f .event) 2) e
-    where
-      go : (x : Bool) → eqb (f .event) 0 ≡ x → (y z : Bool) → cond x Start (cond y Internal (cond z (Send (messageOf f)) (Receive (messageOf f)))) ≡ Start → f .event ≡ 0
-      go true a y z e = eqb-true _ 0 a
-      go false a true z e = absurd (let z : _≡_ {A = ℕ} 0 1 = cc in omega arith)
-      go false a false true e = absurd (let z : _≡_ {A = ℕ} 0 1 = cc in omega arith)
-      go false a false false e = absurd (let z : _≡_ {A = ℕ} 0 1 = cc in omega arith)
-
-  pub start-event : (f : Fields) → f .event ≡ 0 → eventOf f ≡ Start
-  unfolding eventOf
-  start-event f e = simp e
-
-  pub event-send : (f : Fields) (m : Message) → eventOf f ≡ Send m → (f .event ≡ 2) × (m ≡ messageOf f)
-  unfolding eventOf
-  event-send f m e = go (eqb (f .event) 0) (eqb (f .event) 1) (eqb (f .event) 2) refl e
-    where
-      go : (x y z : Bool) → eqb (f .event) 2 ≡ z → cond x Start (cond y Internal (cond z (Send (messageOf f)) (Receive (messageOf f)))) ≡ Send m → (f .event ≡ 2) × (m ≡ messageOf f)
-      go true y z a e = absurd (let z : _≡_ {A = ℕ} 0 1 = cc in omega arith)
-      go false true z a e = absurd (let z : _≡_ {A = ℕ} 0 1 = cc in omega arith)
-      go false false true a e = (eqb-true _ 2 a, cc)
-      go false false false a e = absurd (let z : _≡_ {A = ℕ} 0 1 = cc in omega arith)
-
-  -- of a record whose event is known
-  pub event-receive : (f : Fields) (m : Message) → f .event < 4 → eventOf f ≡ Receive m → (f .event ≡ 3) × (m ≡ messageOf f)
-  unfolding eventOf
-  event-receive f m l e = go (eqb (f .event) 0) refl (eqb (f .event) 1) refl (eqb (f .event) 2) refl e
-    where
-      go : (x : Bool) → eqb (f .event) 0 ≡ x → (y : Bool) → eqb (f .event) 1 ≡ y → (z : Bool) → eqb (f .event) 2 ≡ z
-          → cond x Start (cond y Internal (cond z (Send (messageOf f)) (Receive (messageOf f)))) ≡ Receive m → (f .event ≡ 3) × (m ≡ messageOf f)
-      go true a y b z d e = absurd (let z : _≡_ {A = ℕ} 0 1 = cc in omega arith)
-      go false a true b z d e = absurd (let z : _≡_ {A = ℕ} 0 1 = cc in omega arith)
-      go false a false b true d e = absurd (let z : _≡_ {A = ℕ} 0 1 = cc in omega arith)
-      go false a false b false d e = (three (f .event) l (eqb-false _ 0 a) (eqb-false _ 1 b) (eqb-false _ 2 d), cc)
-        where
-          three : (n : ℕ) → n < 4 → (n ≡ 0 → ⊥) → (n ≡ 1 → ⊥) → (n ≡ 2 → ⊥) → n ≡ 3
-          three n l a b d = omega arith
 
   module _ (ok : Accepted s qs) where
     sender : (i k : ℕ) (m : Message) → into (runOf s qs) i k ≡ Send m
@@ -129,7 +121,8 @@ module _ (s qs : List ℕ) where
         let j = state-judged ok i k (sent-there e) in
         let (a, b) = event-send _ m (sym (j .event) ∙ e) in
         let c : m .channel < headOf s .channels = subst (λ n. n .channel < headOf s .channels) (sym b) (j .right .names .send a) in
-        (omega (arith, run-channels), ap (λ x. x .from) (run-channel (m .channel) c) ∙ ap (λ n. channelAt s (n .channel) .from) b ∙ j .right .sends a ∙ j .process)
+        let end = ap (λ x. x .from) (run-channel (m .channel) c) ∙ ap (λ n. channelAt s (n .channel) .from) b in
+        (omega (arith, run-channels), end ∙ j .right .sends a ∙ j .process)
 
     receiver : (i k : ℕ) (m : Message) → into (runOf s qs) i k ≡ Receive m
         → (m .channel < length (runOf s qs .channels)) × (channel (runOf s qs) (m .channel) .to ≡ i)
@@ -139,7 +132,8 @@ module _ (s qs : List ℕ) where
         let j = state-judged ok i k (received-there e) in
         let (a, b) = event-receive _ m (j .right .event) (sym (j .event) ∙ e) in
         let c : m .channel < headOf s .channels = subst (λ n. n .channel < headOf s .channels) (sym b) (j .right .names .receive a) in
-        (omega (arith, run-channels), ap (λ x. x .to) (run-channel (m .channel) c) ∙ ap (λ n. channelAt s (n .channel) .to) b ∙ j .right .takes a ∙ j .process)
+        let end = ap (λ x. x .to) (run-channel (m .channel) c) ∙ ap (λ n. channelAt s (n .channel) .to) b in
+        (omega (arith, run-channels), end ∙ j .right .takes a ∙ j .process)
 
     starts : (i k : ℕ) → IsState (runOf s qs) i k → (into (runOf s qs) i k ≡ Start) ↔ (k ≡ 1)
     starts i zero w = absurd (omega (arith, w .counted))

@@ -1,6 +1,4 @@
-pub mod States
-pub mod Judge
 pub mod Read
 pub mod Said
-pub mod Tables
+pub mod Index
 pub mod Inner

@@ -1,17 +1,13 @@
 -- The run that a file's bytes say.
-use mathlib.Core.List.{List, []}
+use mathlib.Core.List.{List}
 use Prim.Native.Nat.{ℕ, _-_}
 use lib.ListN.{getD}
 use Rattle.model.specs.Run.{Run}
-use Rattle.run.specs.States.{placesOf, runOf}
-use Rattle.run.specs.Read.{Verdict, readOf}
-use Rattle.run.specs.Read.Verdict.{refused, accepted}
+use Rattle.record.specs.Pass.{placesIn}
+use Rattle.states.specs.States.{placesOf, runOf}
+use Rattle.run.specs.Read.{readOf}
 
 -- the places of the state records in file order; none of a file that the pass refuses
-abbrev pub placesIn : Verdict → List ℕ
-placesIn (refused x) = []
-placesIn (accepted qs) = qs
-
 unfoldable pub statesOf : List ℕ → List ℕ
 statesOf s = placesIn (readOf s)
 

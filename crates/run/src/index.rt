@@ -1,13 +1,13 @@
 // The index of a run: one lent table of 40,968 numbers, read and written only here. At 0 it has how many states each process has, at 8 where each stands in the
 // file, at 4104 the other end of each send and receive, at 8200 the clock of each state, eight numbers a state.
-use crate::states::state_at;
 use model::Event;
+use states::held::state_at;
 ghost use mathlib.Core.Path.{_≡_};
-ghost use Prim.Native.Nat.{_+_, _*_, _≤_, _<_};
-ghost use lib.ListN.{length, getD, set};
+ghost use Prim.Native.Nat.{_+_, _<_};
+ghost use lib.ListN.{length, getD, set, take, drop};
 ghost use Rattle.model.specs.Run.{into, IsState};
 ghost use Rattle.run.specs.Said.{runIn};
-ghost use Rattle.run.specs.Tables.{placeAt, partnerAt, clockRow, clockIn, HasSlot, Listed};
+ghost use Rattle.run.specs.Index.{placeAt, partnerAt, clockRow, clockIn, HasSlot, Listed, HasRoom, withState};
 
 // How many states process p has.
 pub fn count_of(index: &[u16], p: u16) -> u16
@@ -45,6 +45,15 @@ pub fn clock_at(index: &[u16], p: u16, k: u16, i: u16) -> u16
     index[entry]
 }
 
+// Its clock, a number for each of eight processes.
+pub fn clock_of<'a>(index: &'a [u16], p: u16, k: u16) -> &'a [u16]
+    requires { ⌜ (length (now index) ≡ 40968) × HasSlot p k ⌝ }
+    ensures { λ r. ⌜ now r ≡ take 8 (drop (clockRow p k) (now (index .entry))) ⌝ }
+{
+    let entry = 8200 + 8 * (512 * (p as usize) + (k - 1) as usize);
+    &index[entry..entry + 8]
+}
+
 // What led into it.
 pub fn event_at(run: &[u8], index: &[u16], p: u16, k: u16) -> Event
     requires { ⌜ Listed (now run) (now index) × IsState (runIn (now run)) p k ⌝ }
@@ -56,8 +65,8 @@ pub fn event_at(run: &[u8], index: &[u16], p: u16, k: u16) -> Event
 
 // Process p has one state more, at the place at.
 pub fn keep(index: &mut [u16], p: u16, at: usize)
-    requires { ⌜ (length (now index) ≡ 40968) × (p < 8) × (getD (now index) p 0 < 512) × (at ≤ 65535) ⌝ }
-    ensures { λ _. ⌜ now (index .exit) ≡ set (set (now (index .entry)) (8 + (512 * p + getD (now (index .entry)) p 0)) at) p (getD (now (index .entry)) p 0 + 1) ⌝ }
+    requires { ⌜ HasRoom (now index) p at ⌝ }
+    ensures { λ _. ⌜ now (index .exit) ≡ withState (now (index .entry)) p at ⌝ }
 {
     let row = p as usize;
     let count = index[row];

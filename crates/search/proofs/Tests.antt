@@ -1,5 +1,5 @@
 -- A clause at a cut: true, or who has to move.
-use mathlib.Core.Path.{_≡_, refl, sym, ap, _∙_, subst}
+use mathlib.Core.Path.{_≡_, refl, sym, _∙_, subst}
 use mathlib.Core.Bool.{Bool, true, false, cond}
 use mathlib.Core.List.{List, List·Memᴰ}
 use Prim.Native.Nat.{ℕ, zero, suc, _≤_, _<_}
@@ -7,34 +7,22 @@ use native.Mathlib.Omega.{arith}
 use lib.Dec.{T, ltb}
 use lib.IntN.{ℤ, pos}
 use lib.ListN.{length, getD}
+use Rattle.model.proofs.Numbers.{never, T-of, not-T-of}
 use Rattle.model.specs.declared.Channel.{Channel}
-use Rattle.model.specs.declared.Message.{Message}
 use Rattle.model.specs.declared.Mover.the-variants.{Sender, Receiver, NotLinear}
 use Rattle.model.specs.Run.{Run, processes, count, state, channel}
-use Rattle.model.specs.Cut.{at, between, inTransit}
-use Rattle.model.specs.Clause.{Comparison, compares, passes, mover, linear, Clause, holds, Linear}
+use Rattle.model.specs.Cut.{at, inTransit}
+use Rattle.model.specs.Clause.{Comparison, compares, Test, passes, mover, Clause, holds}
+use Rattle.model.specs.Linear.{Linear}
 use Rattle.model.specs.Clause.Clause.{local, on}
 use Rattle.model.proofs.Search.{Under, Moves, local-moves, sender-moves, receiver-moves}
-use Rattle.record.specs.Record.{headOf}
-use Rattle.run.specs.States.{channelAt}
-use Rattle.run.specs.Read.{readOf}
-use Rattle.run.specs.Read.Verdict.{accepted}
-use Rattle.run.specs.Said.{statesOf, runIn}
-use Rattle.run.proofs.Listed.{sides, channels-are, channel-same}
 use Rattle.condition.specs.Clauses.{testOf}
-use Rattle.cut.specs.declared.Behind.{Behind}
-use Rattle.cut.specs.declared.Behind.the-variants.{Nobody, Process}
-use Rattle.cut.specs.declared.Tally.{Tally}
-use Rattle.cut.specs.Tally.{tallyOf, asked}
-use Rattle.cut.proofs.Passed.{tally-count}
-use Rattle.search.specs.Search.{Tested, Lowest, MustMove}
-use Rattle.search.specs.Search.Tested.{holding, localFalse, sender, receiver}
-
-T-of : {b : Bool} → b ≡ true → T b
-T-of e = rw e tt
-
-not-T-of : {b : Bool} → b ≡ false → ¬ T b
-not-T-of e t = rw e at t
+use Rattle.cut.specs.declared.HasToMove.{HasToMove}
+use Rattle.cut.specs.declared.HasToMove.the-variants.{Nobody, Process}
+use Rattle.cut.proofs.Between.{Ends}
+use Rattle.search.specs.Search.{EndNamed, Tested, Lowest, MustMove}
+use Rattle.search.specs.Search.EndNamed.{sender, receiver}
+use Rattle.search.specs.Search.Tested.{holding, localFalse, channelFalse}
 
 module _ (r : Run) (cut : List ℕ) where
   pub local-true : (i v : ℕ) (o : Comparison) (x : ℤ) {y : ℤ} → y ≡ x → compares o (getD (state r i (at cut i) .values) v (pos 0)) y ≡ true
@@ -47,71 +35,81 @@ module _ (r : Run) (cut : List ℕ) where
   unfolding holds
   local-false i v o x h z e = localFalse i v o x refl h (not-T-of (subst (λ y. compares o (getD (state r i (at cut i) .values) v (pos 0)) y ≡ false) z e))
 
--- the ends of a known channel, as its record says them
-pub record Ends (r : Run) (c : ℕ) (e : Channel) : Type 0 where
-  pub same : e ≡ channel r c
-  pub from : e .from < processes r
-  pub to : e .to < processes r
-
-pub ends-of : (s : List ℕ) → readOf s ≡ accepted (statesOf s) → (c : ℕ) → c < headOf s .channels → {e : Channel} → e ≡ channelAt s c → Ends (runIn s) c e
-ends-of s read c h z =
-    let n : c < length (runIn s .channels) = omega (arith, channels-are s read) in
-    let same = z ∙ channel-same s read c n in
-    let within = sides s read .ends c n in
-    record { same = same; from = rw same (within .0); to = rw same (within .1) }
-
--- a channel clause, by the tally of what is in transit between these ends
-module _ (r : Run) (cut : List ℕ) (c n x : ℕ) {e : Channel} {y : Tally} {b : Bool} (k : Ends r c e)
-    (w : y ≡ tallyOf (asked n x) (between r c (at cut (e .from)) (at cut (e .to))))
-    (says : (ms : List Message) → y ≡ tallyOf (asked n x) ms → b ≡ passes (testOf n x) ms) where
-  tallied : y ≡ tallyOf (asked n x) (inTransit r cut c)
-  unfolding inTransit
-  tallied = w ∙ ap (λ e. tallyOf (asked n x) (between r c (at cut (e .from)) (at cut (e .to)))) (k .same)
-
+-- a channel clause, by its test of what is in transit
+module _ (r : Run) (cut : List ℕ) (c n x : ℕ) {b : Bool} (says : b ≡ passes (testOf n x) (inTransit r cut c)) where
   pub channel-true : b ≡ true → Tested r cut (on c (testOf n x)) Nobody
   unfolding holds
-  channel-true h = holding (T-of (sym (says _ tallied) ∙ h))
+  channel-true h = holding (T-of (sym says ∙ h))
 
-  module _ (h : b ≡ false) where
-    pub channel-sender : mover (testOf n x) (y .count) ≡ Sender → Tested r cut (on c (testOf n x)) (Process (e .from))
-    unfolding holds
-    channel-sender m = rw (k .same) (sender c (testOf n x) refl (rw (k .same) at (k .from)) (not-T-of (sym (says _ tallied) ∙ h)) (ap (mover (testOf n x)) (sym (tally-count _ _ tallied)) ∙ m))
+  pub channel-false : {named : HasToMove} → b ≡ false → EndNamed r c (testOf n x) (length (inTransit r cut c)) named → Tested r cut (on c (testOf n x)) named
+  unfolding holds
+  channel-false h e = channelFalse c (testOf n x) _ refl (not-T-of (sym says ∙ h)) e
 
-    pub channel-receiver : mover (testOf n x) (y .count) ≡ Receiver → Tested r cut (on c (testOf n x)) (Process (e .to))
-    unfolding holds
-    channel-receiver m = rw (k .same) (receiver c (testOf n x) refl (rw (k .same) at (k .to)) (not-T-of (sym (says _ tallied) ∙ h)) (ap (mover (testOf n x)) (sym (tally-count _ _ tallied)) ∙ m))
+-- what tests of stamps name doesn't depend on the number of messages
+pub stamp-mover : (n x a b : ℕ) → 4 ≤ n → n ≤ 7 → mover (testOf n x) a ≡ mover (testOf n x) b
+unfolding testOf
+stamp-mover zero x a b h g = absurd (omega arith)
+stamp-mover (suc zero) x a b h g = absurd (omega arith)
+stamp-mover (suc (suc zero)) x a b h g = absurd (omega arith)
+stamp-mover (suc (suc (suc zero))) x a b h g = absurd (omega arith)
+stamp-mover (suc (suc (suc (suc zero)))) x a b h g = refl
+stamp-mover (suc (suc (suc (suc (suc zero))))) x a b h g = refl
+stamp-mover (suc (suc (suc (suc (suc (suc zero)))))) x a b h g = refl
+stamp-mover (suc (suc (suc (suc (suc (suc (suc zero))))))) x a b h g = refl
+stamp-mover (suc (suc (suc (suc (suc (suc (suc (suc n)))))))) x a b h g = absurd (omega arith)
+
+module _ {r : Run} {c : ℕ} {t : Test} {n : ℕ} {e : Channel} (ends : Ends r c e) where
+  pub names-sender : mover t n ≡ Sender → EndNamed r c t n (Process (e .from))
+  names-sender m = rw (ends .same) (sender (rw (ends .same) at (ends .from)) m)
+
+  pub names-receiver : mover t n ≡ Receiver → EndNamed r c t n (Process (e .to))
+  names-receiver m = rw (ends .same) (receiver (rw (ends .same) at (ends .to)) m)
+
+pub end-counted : {r : Run} {c : ℕ} {t : Test} {a b : ℕ} {named : HasToMove} → a ≡ b → EndNamed r c t a named → EndNamed r c t b named
+end-counted {r} {c} {t} {named = named} e w = subst (λ n. EndNamed r c t n named) e w
+
+pub end-named : {r : Run} {c : ℕ} {t : Test} {a b : ℕ} {named : HasToMove} → mover t a ≡ mover t b → EndNamed r c t a named → EndNamed r c t b named
+end-named e (sender h m) = sender h (sym e ∙ m)
+end-named e (receiver h m) = receiver h (sym e ∙ m)
 
 -- tests 1 to 7 say who has to move
 pub test-says : (n x count : ℕ) → 1 ≤ n → n ≤ 7 → mover (testOf n x) count ≡ NotLinear → ⊥
 unfolding testOf
 test-says zero x count h g e = absurd (omega arith)
-test-says (suc zero) x count h g e = let z : _≡_ {A = ℕ} 0 1 = cc in omega arith
-test-says (suc (suc zero)) x count h g e = let z : _≡_ {A = ℕ} 0 1 = cc in omega arith
+test-says (suc zero) x count h g e = never (cc)
+test-says (suc (suc zero)) x count h g e = never (cc)
 test-says (suc (suc (suc zero))) x count h g e = go (ltb count x) e
   where
     go : (b : Bool) → cond b Sender Receiver ≡ NotLinear → ⊥
-    go true e = let z : _≡_ {A = ℕ} 0 1 = cc in omega arith
-    go false e = let z : _≡_ {A = ℕ} 0 1 = cc in omega arith
-test-says (suc (suc (suc (suc zero)))) x count h g e = let z : _≡_ {A = ℕ} 0 1 = cc in omega arith
-test-says (suc (suc (suc (suc (suc zero))))) x count h g e = let z : _≡_ {A = ℕ} 0 1 = cc in omega arith
-test-says (suc (suc (suc (suc (suc (suc zero)))))) x count h g e = let z : _≡_ {A = ℕ} 0 1 = cc in omega arith
-test-says (suc (suc (suc (suc (suc (suc (suc zero))))))) x count h g e = let z : _≡_ {A = ℕ} 0 1 = cc in omega arith
+    go true e = never (cc)
+    go false e = never (cc)
+test-says (suc (suc (suc (suc zero)))) x count h g e = never (cc)
+test-says (suc (suc (suc (suc (suc zero))))) x count h g e = never (cc)
+test-says (suc (suc (suc (suc (suc (suc zero)))))) x count h g e = never (cc)
+test-says (suc (suc (suc (suc (suc (suc (suc zero))))))) x count h g e = never (cc)
 test-says (suc (suc (suc (suc (suc (suc (suc (suc n)))))))) x count h g e = absurd (omega arith)
 
 -- so who is named has to move
-pub tested-moves : (r : Run) (cond : List Clause) (cut : List ℕ) (k : Clause) → Linear cond → Lowest r cond cut → List·Memᴰ k cond → (b : Behind) (p : ℕ) → b ≡ Process p
+pub tested-moves : (r : Run) (cond : List Clause) (cut : List ℕ) (k : Clause) → Linear cond → Lowest r cond cut → List·Memᴰ k cond → (b : HasToMove) (p : ℕ) → b ≡ Process p
     → Tested r cut k b → (p < processes r) × MustMove r cond cut p
 unfolding Under Moves
-tested-moves r cond cut k linear low m b p e (holding t) = absurd (let z : _≡_ {A = ℕ} 0 1 = cc in omega arith)
+tested-moves r cond cut k linear low m b p e (holding t) = never (cc)
 tested-moves r cond cut k linear low m b p e (localFalse i v o x g h n) =
     let same : i ≡ p = cc in
     subst (λ p. (p < processes r) × MustMove r cond cut p) same
     (h, local-moves r cond linear cut low i v o x (subst (λ k. List·Memᴰ k cond) g m) (subst (λ k. ¬ T (holds r cut k)) g n))
-tested-moves r cond cut k linear low m b p e (sender c t g h n w) =
-    let same : channel r c .from ≡ p = cc in
-    subst (λ p. (p < processes r) × MustMove r cond cut p) same
-    (h, sender-moves r cond linear cut low c t (subst (λ k. List·Memᴰ k cond) g m) (subst (λ k. ¬ T (holds r cut k)) g n) w)
-tested-moves r cond cut k linear low m b p e (receiver c t g h n w) =
-    let same : channel r c .to ≡ p = cc in
-    subst (λ p. (p < processes r) × MustMove r cond cut p) same
-    (h, receiver-moves r cond linear cut low c t (subst (λ k. List·Memᴰ k cond) g m) (subst (λ k. ¬ T (holds r cut k)) g n) w)
+tested-moves r cond cut k linear low m b p e (channelFalse c t b′ g n w) = by-end _ w e
+  where
+    in-cond : List·Memᴰ (on c t) cond
+    in-cond = subst (λ k. List·Memᴰ k cond) g m
+
+    false-there : ¬ T (holds r cut (on c t))
+    false-there = subst (λ k. ¬ T (holds r cut k)) g n
+
+    by-end : (b : HasToMove) → EndNamed r c t (length (inTransit r cut c)) b → b ≡ Process p → (p < processes r) × MustMove r cond cut p
+    by-end b (sender h w) e =
+        let same : channel r c .from ≡ p = cc in
+        subst (λ p. (p < processes r) × MustMove r cond cut p) same (h, sender-moves r cond linear cut low c t in-cond false-there w)
+    by-end b (receiver h w) e =
+        let same : channel r c .to ≡ p = cc in
+        subst (λ p. (p < processes r) × MustMove r cond cut p) same (h, receiver-moves r cond linear cut low c t in-cond false-there w)

@@ -8,33 +8,41 @@ use lib.IntN.{ℤ}
 use lib.ListN.{length}
 use Rattle.model.specs.declared.Mover.the-variants.{Sender, Receiver}
 use Rattle.model.specs.Run.{Run, processes, channel}
-use Rattle.model.specs.Cut.{at, ByClock, inTransit}
+use Rattle.model.specs.Cut.{at, IsCut, inTransit}
+use Rattle.model.specs.Clocks.{ByClock}
 use Rattle.model.specs.Clause.{Comparison, Test, mover, Clause, holds, Satisfies, First}
 use Rattle.model.specs.Clause.Clause.{local, on}
 use Rattle.record.specs.Record.{headOf}
-use Rattle.run.specs.Tables.{clockIn, Tables}
-use Rattle.condition.specs.Known.{Known}
-use Rattle.condition.specs.Read.{clausesIn}
-use Rattle.cut.specs.declared.Behind.{Behind}
-use Rattle.cut.specs.declared.Behind.the-variants.{Nobody, Process}
-use Rattle.search.specs.declared.Answer.{Answer}
-use Rattle.search.specs.declared.Answer.the-variants as A
+use Rattle.run.specs.Index.{clockIn, IndexHolds}
+use Rattle.run.specs.Said.{runIn}
+use Rattle.condition.specs.declared.Test as Held
+use Rattle.condition.specs.Known.{TestKnown, ConditionKnown}
+use Rattle.cut.specs.declared.HasToMove.{HasToMove}
+use Rattle.cut.specs.declared.HasToMove.the-variants.{Nobody, Process}
+use Rattle.search.specs.declared.Outcome.{Outcome}
+use Rattle.search.specs.declared.Outcome.the-variants as A
 
 -- an accepted run with its index, and the places of clauses that are known beside its head
 pub record Given (s c ix qs : List ℕ) : Type 0 where
-  pub tables : Tables s ix
-  pub known : Known c (headOf s) qs
+  pub index : IndexHolds s ix
+  pub known : ConditionKnown c (headOf s) qs
 
--- the clauses of a whole condition
-abbrev pub clausesFor : List ℕ → List ℕ → List Clause
-clausesFor s c = clausesIn c (headOf s)
+-- a channel clause that is known beside its head, and a cut
+pub record ChannelAsked (s ix cut : List ℕ) (clause : Held.Test) : Type 0 where
+  pub index : IndexHolds s ix
+  pub isCut : IsCut (runIn s) cut
+  pub known : TestKnown (headOf s) clause
+
+-- the end of a channel that has to move where so many messages are on it
+pub data EndNamed (r : Run) (c : ℕ) (t : Test) (n : ℕ) : HasToMove → Type 0 where
+  sender : channel r c .from < processes r → mover t n ≡ Sender → EndNamed r c t n (Process (channel r c .from))
+  receiver : channel r c .to < processes r → mover t n ≡ Receiver → EndNamed r c t n (Process (channel r c .to))
 
 -- a clause holds at the cut, or is false and names who has to move
-pub data Tested (r : Run) (cut : List ℕ) (k : Clause) : Behind → Type 0 where
+pub data Tested (r : Run) (cut : List ℕ) (k : Clause) : HasToMove → Type 0 where
   holding : T (holds r cut k) → Tested r cut k Nobody
   localFalse : (i v : ℕ) (o : Comparison) (x : ℤ) → k ≡ local i v o x → i < processes r → ¬ T (holds r cut k) → Tested r cut k (Process i)
-  sender : (c : ℕ) (t : Test) → k ≡ on c t → channel r c .from < processes r → ¬ T (holds r cut k) → mover t (length (inTransit r cut c)) ≡ Sender → Tested r cut k (Process (channel r c .from))
-  receiver : (c : ℕ) (t : Test) → k ≡ on c t → channel r c .to < processes r → ¬ T (holds r cut k) → mover t (length (inTransit r cut c)) ≡ Receiver → Tested r cut k (Process (channel r c .to))
+  channelFalse : (c : ℕ) (t : Test) (b : HasToMove) → k ≡ on c t → ¬ T (holds r cut k) → EndNamed r c t (length (inTransit r cut c)) b → Tested r cut k b
 
 -- a clause is local, or else of a channel
 abbrev pub isLocal : Clause → Bool
@@ -42,12 +50,12 @@ isLocal (local i v o x) = true
 isLocal (on c t) = false
 
 -- a clause of the kind that is asked for is tested; any other names nobody
-pub data Tried (r : Run) (cut : List ℕ) (k : Clause) (locals : Bool) (b : Behind) : Type 0 where
+pub data Tried (r : Run) (cut : List ℕ) (k : Clause) (locals : Bool) (b : HasToMove) : Type 0 where
   tested : isLocal k ≡ locals → Tested r cut k b → Tried r cut k locals b
   passed : isLocal k ≡ not locals → b ≡ Nobody → Tried r cut k locals b
 
 -- all clauses of the kind hold, or one is false and names who has to move
-pub data KindTested (r : Run) (cond : List Clause) (cut : List ℕ) (locals : Bool) : Behind → Type 0 where
+pub data KindTested (r : Run) (cond : List Clause) (cut : List ℕ) (locals : Bool) : HasToMove → Type 0 where
   all : ((k : Clause) → List·Memᴰ k cond → isLocal k ≡ locals → T (holds r cut k)) → KindTested r cond cut locals Nobody
   one : (k : Clause) → List·Memᴰ k cond → (p : ℕ) → Tested r cut k (Process p) → KindTested r cond cut locals (Process p)
 
@@ -55,16 +63,21 @@ pub data KindTested (r : Run) (cond : List Clause) (cut : List ℕ) (locals : Bo
 abbrev pub Lowest : Run → List Clause → List ℕ → Type 0
 Lowest r cond cut = (d : List ℕ) → Satisfies r cond d → (i : ℕ) → at cut i ≤ at d i
 
+-- a cut of the run that is
+pub record LowestCut (r : Run) (cond : List Clause) (cut : List ℕ) : Type 0 where
+  pub isCut : IsCut r cut
+  pub lowest : Lowest r cond cut
+
 -- every satisfying cut is further on at process p
 abbrev pub MustMove : Run → List Clause → List ℕ → ℕ → Type 0
 MustMove r cond cut p = (d : List ℕ) → Satisfies r cond d → at cut p < at d p
 
 -- nobody has to move where the cut satisfies
-pub data Moved (r : Run) (cond : List Clause) (ix cut : List ℕ) : Behind → Type 0 where
+pub data Moved (r : Run) (cond : List Clause) (ix cut : List ℕ) : HasToMove → Type 0 where
   nobody : ((k : Clause) → List·Memᴰ k cond → T (holds r cut k)) → ByClock r (clockIn ix) cut → Moved r cond ix cut Nobody
   process : (p : ℕ) → p < processes r → MustMove r cond cut p → Moved r cond ix cut (Process p)
 
 -- found with the first cut, or none satisfies
-pub data Searched (r : Run) (cond : List Clause) (cut : List ℕ) : Answer → Type 0 where
+pub data Searched (r : Run) (cond : List Clause) (cut : List ℕ) : Outcome → Type 0 where
   found : First r cond cut → Searched r cond cut A.Found
-  nowhere : ((d : List ℕ) → ¬ Satisfies r cond d) → Searched r cond cut A.Nowhere
+  none : ((d : List ℕ) → ¬ Satisfies r cond d) → Searched r cond cut A.None

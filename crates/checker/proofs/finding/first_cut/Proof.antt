@@ -1,16 +1,14 @@
 use borrow.Author.Needs.{needs}
 use mathlib.Core.Path.{refl}
 use Rattle.checker.specs.Answered.Answered.{runRefused}
-use Rattle.checker.proofs.Parts.{judged-refused, judged-accepted, ready-tables}
+use Rattle.judging.proofs.Told.{judged-refused, judged-accepted}
 use Rattle.checker.proofs.finding.first_cut.Statement.{statement}
 use Rattle.checker.proofs.finding.first_cut.Tie as tie
 
 with-condition-requires : tie.Need-with-condition-requires
 with-condition-requires c κs =
-    let j = c .before .before .before .before .before .before .judge-run .ensures in
-    let e = c .before .before .before .reading2 .given .1 in
-    let a = judged-accepted _ _ (j .0) e in
-    (a .1, ready-tables _ _ (j .1) e, a .0)
+    let m = c .before .before .before in
+    judged-accepted _ _ (m .before .before .before .judge-run .ensures) (m .reading2 .given .1)
 
 returns : tie.Need-returns
 returns c = runRefused _ (judged-refused _ _ (c .before .before .before .before .judge-run .ensures .0) (c .before .reading .given .1)) refl

@@ -2,12 +2,16 @@
 use borrow.Author.Needs.{needs}
 use native.Mathlib.Omega.{arith}
 use mathlib.Core.Path.{refl}
+use mathlib.Core.List.{List}
+use Prim.Native.Nat.{ℕ}
 use Rattle.model.specs.Clause.{First}
 use Rattle.run.specs.Said.{runIn}
 use Rattle.run.proofs.Listed.{processes-are}
-use Rattle.search.specs.Search.{clausesFor}
-use Rattle.checker.specs.Answered.Answered.{nowhere, tooEarly, found}
-use Rattle.checker.proofs.Parts.{given, searched-found, searched-nowhere}
+use Rattle.condition.specs.Known.{clausesFor}
+use Rattle.checker.specs.Inner.{Searching}
+use Rattle.checker.specs.Answered.{Both}
+use Rattle.checker.specs.Answered.Answered.{none, tooEarly, found}
+use Rattle.search.proofs.Prepared.{given, searched-found, searched-none}
 use Rattle.checker.proofs.finding.search_in.Statement.{statement}
 use Rattle.checker.proofs.finding.search_in.Tie as tie
 
@@ -15,42 +19,48 @@ use Rattle.checker.proofs.finding.search_in.Tie as tie
 abbrev entry : tie.After-search → tie.Start
 entry s = s .before .before .before .before .before .before .before .before
 
+abbrev ready : tie.After-search-arg → tie.Start
+ready c = c .before .before .before .before .before .before .before
+
 abbrev sought : tie.After-enum-told → tie.After-search
 sought t = t .before .before .before .before
 
+both : {s c ix qs row lent : List ℕ} → Searching s c ix qs row lent → Both s c
+both r = record { run = r .accepted; cond = r .prepared .condition }
+
 first : (t : tie.After-enum-told) → First (runIn (entry (sought t) .args .run .now)) (clausesFor (entry (sought t) .args .run .now) (entry (sought t) .args .cond .now)) (sought t .search .last .1 .1 .1 .1 .0)
-first t = searched-found (entry (sought t) .pre .0) (sought t .search .ensures) (t .enum-told .given .1)
+first t = searched-found (entry (sought t) .pre .prepared) (sought t .search .ensures) (t .enum-told .given .1)
 
 search-requires : tie.Need-search-requires
-search-requires c κs = let r = c .before .before .before .before .before .before .before .pre in (given (r .0), r .1)
+search-requires c κs = let r = ready c .pre in (given (r .prepared), r .ones)
 
 returns : tie.Need-returns
 returns c =
     let s = c .before .before .before .before in
     let r = entry s .pre in
-    nowhere (r .0 .both) (r .2) (searched-nowhere (r .0) (s .search .ensures) (c .enum-told2 .given .1)) refl
+    none (both r) (r .room) (searched-none (r .prepared) (s .search .ensures) (c .enum-told2 .given .1)) refl
 
 has-early-requires : tie.Need-has-early-requires
-has-early-requires c κs = let t = c .before in (entry (sought t) .pre .0 .tables, first t .satisfies .isCut)
+has-early-requires c κs = let t = c .before in (entry (sought t) .pre .prepared .index, first t .satisfies .isCut)
 
 returns-2 : tie.Need-returns-2
 returns-2 c =
     let t = c .before .before .before .before in
     let r = entry (sought t) .pre in
-    rw (c .refusal-of .ensures) (tooEarly (r .0 .both) (r .2) _ (first t) (c .before .before .has-early .ensures .early (c .before .if1 .taken)) refl)
+    rw (c .refusal-of .ensures) (tooEarly (both r) (r .room) _ (first t) (c .before .before .has-early .ensures .early (c .before .if1 .taken)) refl)
 
 write-requires : tie.Need-write-requires
 write-requires c κs =
     let t = c .before .before .before .before .before in
     let r = entry (sought t) .pre in
-    omega (arith, first t .satisfies .isCut .size, processes-are _ (r .0 .tables .listed .read), r .2)
+    omega (arith, first t .satisfies .isCut .size, processes-are _ (r .prepared .index .listed .read), r .room)
 
 returns-3 : tie.Need-returns-3
 returns-3 c =
     let e = c .before .before .before .before .before in
     let t = e .before .before .before in
     let r = entry (sought t) .pre in
-    found (r .0 .both) (r .2) _ (first t) (e .before .has-early .ensures .none (e .if1 .left)) (c .before .before .write .ensures)
+    found (both r) (r .room) _ (first t) (e .before .has-early .ensures .none (e .if1 .left)) (c .before .before .write .ensures)
 
 pub search-in-spec : {M : Type 1} → statement M
 search-in-spec =

@@ -1,10 +1,12 @@
+-- `with_condition` meets its contract: the condition is refused, or its clauses stand in the front of the row.
 use borrow.Author.Needs.{needs}
-use mathlib.Core.Path.{refl, sym, ap}
+use mathlib.Core.Path.{refl, sym}
 use Prim.Native.Nat.{_≤_}
 use lib.ListN.{length}
 use lib.Seq.{length-take-le}
 use Rattle.checker.specs.Answered.Answered.{condRefused}
-use Rattle.checker.proofs.Parts.{condition-refused, clauses-few, condition-prepared}
+use Rattle.condition.proofs.Told.{condition-refused, clauses-few}
+use Rattle.search.proofs.Prepared.{condition-prepared}
 use Rattle.checker.proofs.finding.with_condition.Statement.{statement}
 use Rattle.checker.proofs.finding.with_condition.Tie as tie
 
@@ -16,7 +18,7 @@ entry p = p .before .before .before .before .before .before
 few : (a : tie.After-reading2) → a .reading2 .given .0 .0 ≤ length (a .before .before .before .read-condition .last .1 .1 .0)
 few a =
     let p = a .before .before .before in
-    clauses-few _ _ _ (entry p .pre .2) (p .read-condition .ensures) _ (a .reading2 .given .1) (p .read-condition .kept .1 .1 .0)
+    clauses-few _ _ _ (entry p .pre .head) (p .read-condition .ensures) _ (a .reading2 .given .1) (p .read-condition .kept .1 .1 .0)
 
 array-share-prefix-clauses : tie.Need-array-share-prefix-clauses
 array-share-prefix-clauses c = few (c .before)
@@ -26,15 +28,16 @@ slice-aggregate-search-for c = sym (length-take-le _ _ (few (c .before .before))
 
 search-for-requires : tie.Need-search-for-requires
 search-for-requires c κs =
-    let p = c .before .before .before .before .before .before in
+    let a = c .before .before .before in
+    let p = a .before .before .before in
     let r = entry p .pre in
-    (condition-prepared _ _ _ (r .2) (p .read-condition .ensures) _ (c .before .before .before .reading2 .given .1) (p .read-condition .kept .1 .1 .0) (r .0) (r .1), ap (λ h. h .processes) (r .2))
+    (r, condition-prepared _ _ _ (r .head) (p .read-condition .ensures) _ (a .reading2 .given .1) (p .read-condition .kept .1 .1 .0) (r .index))
 
 returns : tie.Need-returns
 returns c =
     let p = c .before .before .before .before in
     let r = entry p .pre in
-    condRefused _ (r .0) (condition-refused _ _ _ (r .2) (p .read-condition .ensures) _ (c .before .reading .given .1)) refl
+    condRefused _ (r .accepted) (condition-refused _ _ _ (r .head) (p .read-condition .ensures) _ (c .before .reading .given .1)) refl
 
 pub with-condition-spec : {M : Type 1} → statement M
 with-condition-spec =

@@ -5,7 +5,17 @@ use Rattle.condition.proofs.judge.test_no.Tie as tie
 
 returns : tie.Need-returns
 unfolding testNo
-returns c = rw (c .or-if4 .ensures, c .before .or-if3 .ensures, c .before .before .or-if2 .ensures, c .before .before .before .or-if .ensures, c .before .before .before .before .before .before .may-move .ensures, c .before .before .before .before .before .before .before .who-moves .ensures)
+returns c =
+    let first = c .before .before .before in
+    let linear = first .before .before .before in
+    rw (
+      c .or-if4 .ensures,
+      c .before .or-if3 .ensures,
+      c .before .before .or-if2 .ensures,
+      first .or-if .ensures,
+      linear .may-move .ensures,
+      linear .before .who-moves .ensures,
+    )
 
 pub test-no-spec : {M : Type 1} → statement M
 test-no-spec =

@@ -1,3 +1,4 @@
+-- `who_moves` meets its contract: in each arm the key decides which test the definition takes.
 use borrow.Author.Tests.{ne-eqb, lt-ltb, le-ltb}
 use Rattle.condition.specs.Clauses.{testOf}
 use Rattle.condition.proofs.movers.who_moves.Statement.{statement}

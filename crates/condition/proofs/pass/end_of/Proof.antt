@@ -1,7 +1,7 @@
 use mathlib.Core.Path.{ap}
 use borrow.Author.Tests.{lt-ltb, le-ltb}
-use Rattle.condition.specs.declared.Reading.the-variants.{Accepted}
-use Rattle.condition.specs.Read.{ended}
+use Rattle.condition.specs.declared.ConditionReading.the-variants.{Accepted}
+use Rattle.record.specs.Pass.{ended}
 use Rattle.condition.proofs.pass.end_of.Statement.{statement}
 use Rattle.condition.proofs.pass.end_of.Tie as tie
 

@@ -1,7 +1,6 @@
 use borrow.Author.Needs.{needs}
-use native.Mathlib.Omega.{arith}
-use mathlib.Core.Path.{_≡_, refl, sym, _∙_}
-use Prim.Native.Nat.{ℕ}
+use mathlib.Core.Path.{refl, sym, _∙_}
+use Rattle.model.proofs.Numbers.{never}
 use Rattle.cut.proofs.Low.{nobody-low, somebody-low}
 use Rattle.cut.proofs.clocks.consistent.Statement.{statement}
 use Rattle.cut.proofs.clocks.consistent.Tie as tie
@@ -9,7 +8,7 @@ use Rattle.cut.proofs.clocks.consistent.Tie as tie
 returns : tie.Need-returns
 returns c =
     λ run rule is. (
-      λ e. absurd (let z : _≡_ {A = ℕ} 0 1 = cc in omega arith),
+      λ e. never (cc),
       λ ok. absurd (somebody-low _ _ run rule is _ (sym (c .before .before .too-low .ensures) ∙ c .enum-told2 .given .1) ok),
     )
 

@@ -1,3 +1,4 @@
+-- `compares` meets its contract: each comparison as the definition has it, of numbers that come back from their bits.
 use mathlib.Core.Path.{ap, _∙_}
 use mathlib.Core.Bool.{not}
 use borrow.Author.Tests.{ne-eqb}

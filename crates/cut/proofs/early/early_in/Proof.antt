@@ -1,3 +1,4 @@
+-- `early_in` meets its contract. The invariant of its loop: what the states so far receive is sent in time. The measure is the number of states left.
 use native.Mathlib.Omega.{arith}
 use Prim.Native.Nat.{ℕ, _+_, _-_, _≤_, _<_}
 use Rattle.model.specs.Run.{IsState}
@@ -13,6 +14,10 @@ Inv-loop run index cut p row last k₀ k = (1 ≤ k) × ((l : ℕ) → l < k →
 
 abbrev μ-loop : tie.MeasureT-loop
 μ-loop run index cut p row last k₀ k = last + 1 - k
+
+-- the entry, seen from the loop
+abbrev entry : tie.At-loop Inv-loop μ-loop → tie.Start Inv-loop μ-loop
+entry l = l .before .before .before .before .before
 
 mul-last : tie.Need-mul-last Inv-loop μ-loop
 mul-last c =
@@ -30,8 +35,8 @@ loop-holds c = (omega arith, in-time-start _ _ _)
 
 sent-past-requires : tie.Need-sent-past-requires Inv-loop μ-loop
 sent-past-requires c κs =
-    let r = c .before .before .before .before .before .before .pre in
-    let a = c .before .before .before .before .before .before .args in
+    let r = entry (c .before) .pre in
+    let a = entry (c .before) .args in
     let l = c .before .loop in
     let chosen = r .1 .states _ (r .2) in
     let t : IsState (runIn (a .run .now)) (a .p) (l .k) = record { counted = l .inv .0; there = omega (arith, chosen .there, c .loop-test .taken) } in
@@ -42,7 +47,7 @@ returns c = early-in-here _ _ _ _ (c .before .before .loop-test .taken) (c .befo
 
 add-k : tie.Need-add-k Inv-loop μ-loop
 add-k c =
-    let r = c .before .before .before .before .before .before .before .before .pre in
+    let r = entry (c .before .before .before) .pre in
     omega (arith, states-few (r .0) (r .1 .states _ (r .2)), c .before .before .loop-test .taken)
 
 loop-less : tie.Need-loop-less Inv-loop μ-loop

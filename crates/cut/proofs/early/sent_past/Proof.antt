@@ -1,3 +1,4 @@
+-- `sent_past` meets its contract: the partner of a receive is the state that its send leads into.
 use borrow.Author.Needs.{needs}
 use native.Mathlib.Omega.{arith}
 use mathlib.Core.Path.{_≡_, refl, sym, ap, _∙_}

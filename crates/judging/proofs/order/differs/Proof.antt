@@ -1,76 +1,79 @@
--- `differs` meets its contract. The invariant of its loop: the clock stands whole in the record, and is the same so far.
+-- `differs` meets its contract. The invariant of its loop: the clock stands whole in the record, and is the same so far. The measure is how many numbers are left.
 use borrow.Author.Needs.{needs}
 use native.Mathlib.Omega.{arith}
 use mathlib.Core.Path.{_≡_, sym, _∙_}
+use mathlib.Core.List.{List}
 use Prim.Native.Nat.{ℕ, _+_, _-_, _*_, _≤_, _<_}
-use native.Mathlib.Nat.{eq-or-lt-of-le}
-use mathlib.Core.Logic.{⊎-elim}
 use lib.ListN.{length}
+use Rattle.record.specs.Inner.{clockPlace}
+use Rattle.model.proofs.Numbers.{below-next}
 use Rattle.record.specs.Bytes.{u16At}
-use Rattle.run.specs.Tables.{clockIn}
+use Rattle.run.specs.Index.{clockIn}
 use Rattle.run.specs.Said.{placeOf}
-use Rattle.run.proofs.Listed.{ok, short, processes-are, listed-slot, listed-at, listed-whole}
+use Rattle.run.proofs.Listed.{ok, short, listed-slot, listed-at, listed-whole}
 use Rattle.judging.proofs.Orders.{compared-differs, compared-agrees}
 use Rattle.judging.proofs.order.differs.Statement.{statement}
 use Rattle.judging.proofs.order.differs.Tie as tie
 
-below : {x n : ℕ} → x < n + 1 → x ≤ n
-below h = omega arith
+-- place x of the clock that stands at `at` is that of the index
+abbrev Same : List ℕ → List ℕ → ℕ → ℕ → ℕ → ℕ → Type 0
+Same run index p k at x = u16At run (at + 2 * x) ≡ clockIn index p k x
 
 abbrev Inv-loop : tie.InvT-loop
-Inv-loop run index n p k at i₀ i = (n ≤ 8) × (at + 2 * n ≤ length run) × (length run ≤ 65535) × (i ≤ n) × ((x : ℕ) → x < i → u16At run (at + 2 * x) ≡ clockIn index p k x)
+Inv-loop run index n p k at i₀ i = (n ≤ 8) × (at + 2 * n ≤ length run) × (length run ≤ 65535) × (i ≤ n) × ((x : ℕ) → x < i → Same run index p k at x)
 
 abbrev μ-loop : tie.MeasureT-loop
 μ-loop run index n p k at i₀ i = n - i
 
--- the places of the code: the entry, and where the record's place is found, seen from the loop
-abbrev found : tie.At-loop Inv-loop μ-loop → tie.After-place-of Inv-loop μ-loop
-found l = l .before
-
+-- the entry, seen from where the record's place is found
 abbrev entry : tie.After-place-of Inv-loop μ-loop → tie.Start Inv-loop μ-loop
 entry f = f .before .before .before
 
 place : (f : tie.After-place-of Inv-loop μ-loop) → f .place-of .result ≡ placeOf (entry f .args .run .now) (entry f .args .p) (entry f .args .k)
-place f = let r = entry f .pre in f .place-of .ensures ∙ listed-at _ _ (r .0) _ _ (r .3)
+place f = let r = entry f .pre in f .place-of .ensures ∙ listed-at _ _ (r .0 .listed) _ _ (r .1)
 
 place-of-requires : tie.Need-place-of-requires Inv-loop μ-loop
-place-of-requires c κs = let r = c .before .before .pre in (r .0 .long, listed-slot _ _ (r .0) (r .3))
+place-of-requires c κs = let r = c .before .before .pre in (r .0 .listed .long, listed-slot _ _ (r .0 .listed) (r .1))
 
 add-at : tie.Need-add-at Inv-loop μ-loop
-add-at c = let r = entry c .pre in omega (arith, c .place-of .ensures, listed-whole _ _ (r .0) _ _ (r .3), short _ (r .0 .read))
+add-at c = let r = entry c .pre in omega (arith, c .place-of .ensures, listed-whole _ _ (r .0 .listed) _ _ (r .1), short _ (r .0 .listed .read))
 
 loop-holds : tie.Need-loop-holds Inv-loop μ-loop
 loop-holds c =
     let r = entry c .pre in
-    let few = ok _ (r .0 .read) .head .few in
-    let whole = listed-whole _ _ (r .0) _ _ (r .3) in
-    (omega (arith, r .2), omega (arith, r .2, c .place-of .ensures), short _ (r .0 .read), omega arith, λ x h. absurd (omega arith))
+    let l = r .0 .listed in
+    let few = ok _ (l .read) .head .few in
+    let whole = listed-whole _ _ l _ _ (r .1) in
+    (omega (arith, r .0 .all), omega (arith, r .0 .all, c .place-of .ensures), short _ (l .read), omega arith, λ x h. absurd (omega arith))
 
 clock-at-requires : tie.Need-clock-at-requires Inv-loop μ-loop
 clock-at-requires c κs =
     let l = c .before .before in
-    let r = entry (found l) .pre in
-    (r .0 .long, listed-slot _ _ (r .0) (r .3), omega (arith, l .loop .inv .0, c .before .loop-test .taken))
+    let r = entry (l .before) .pre in
+    (r .0 .listed .long, listed-slot _ _ (r .0 .listed) (r .1), omega (arith, l .loop .inv .0, c .before .loop-test .taken))
 
 returns : tie.Need-returns Inv-loop μ-loop
 returns c =
-    let f = found (c .before .before .before .before) in
+    let t = c .before .before .before in
+    let f = t .before .before in
     let r = entry f .pre in
-    compared-differs _ (entry f .args .index .now) (r .1) _ _ _ (place f) (r .3) _ _
-    (omega (arith, c .before .before .before .loop-test .taken, r .2, processes-are _ (r .0 .read))) (c .before .before .u16-at .ensures) (λ e. c .if1 .taken (e ∙ sym (c .before .clock-at .ensures)))
+    compared-differs (r .0) _ _ _ (place f) (r .1) _ _ (t .loop-test .taken) (c .before .before .u16-at .ensures) (λ e. c .if1 .taken (e ∙ sym (c .before .clock-at .ensures)))
 
 loop-again : tie.Need-loop-again Inv-loop μ-loop
 loop-again c =
-    let i = c .before .before .before .before .loop .inv in
-    (i .0, i .1, i .2, omega (arith, c .before .before .before .loop-test .taken), λ x g. ⊎-elim (λ e. rw e (sym (c .before .before .u16-at .ensures) ∙ c .if1 .left ∙ c .before .clock-at .ensures)) (i .4 x) (eq-or-lt-of-le (below g)))
+    let t = c .before .before .before in
+    let l = t .before in
+    let a = entry (l .before) .args in
+    let i = l .loop .inv in
+    let same = sym (c .before .before .u16-at .ensures) ∙ c .if1 .left ∙ c .before .clock-at .ensures in
+    let at = l .before .place-of .result + clockPlace in
+    (i .0, i .1, i .2, omega (arith, t .loop-test .taken), λ x g. below-next (Same (a .run .now) (a .index .now) (a .p) (a .k) at) g same (i .4 x))
 
 returns-2 : tie.Need-returns-2 Inv-loop μ-loop
 returns-2 c =
-    let f = found (c .before) in
-    let r = entry f .pre in
-    let i = c .before .loop .inv in
-    let e : c .before .loop .i ≡ entry f .args .n = omega (arith, i .3, c .loop-test .left) in
-    compared-agrees _ (entry f .args .index .now) (r .1) _ _ _ (place f) (r .3) _ (e ∙ r .2 ∙ sym (processes-are _ (r .0 .read))) (i .4)
+    let l = c .before in
+    let r = entry (l .before) .pre in
+    compared-agrees (r .0) _ _ _ (place (l .before)) (r .1) (λ x h. l .loop .inv .4 x (omega (arith, h, c .loop-test .left)))
 
 pub differs-spec : {M : Type 1} → statement M
 differs-spec =

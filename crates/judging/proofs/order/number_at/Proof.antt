@@ -1,5 +1,4 @@
 use borrow.Author.Needs.{needs}
-use mathlib.Core.Path.{_∙_, sym}
 use borrow.Author.Tests.{eq-eqb, ne-eqb}
 use Rattle.judging.specs.Order.{numberAt}
 use Rattle.judging.proofs.order.number_at.Statement.{statement}

@@ -11,8 +11,10 @@ returns c = simp (eq-eqb _ _ (c .if1 .taken))
 
 returns-2 : tie.Need-returns-2
 returns-2 c =
-    let a = c .before .before .before .before .before .args in
-    number-other (a .index .now) (a .p) (a .k) (a .ahead .process) (a .ahead .state) (a .i) _ _ _ (c .before .before .before .if1 .left) (c .before .before .number-at .ensures) (c .before .number-at2 .ensures) (c .larger .ensures)
+    let own = c .before .before in
+    let a = own .before .before .before .args in
+    number-other (a .index .now) (a .p) (a .k) (a .ahead .process) (a .ahead .state) (a .i) _ _ _
+    (own .before .if1 .left) (own .number-at .ensures) (c .before .number-at2 .ensures) (c .larger .ensures)
 
 pub number-of-spec : {M : Type 1} → statement M
 number-of-spec =

@@ -1,18 +1,14 @@
--- `sweep` meets its contract. The invariant of its loop: the processes below p have had their turn.
+-- `sweep` meets its contract. The invariant of its loop: the processes below p have had their turn. The measure is how many are left.
 use native.Mathlib.Omega.{arith}
 use mathlib.Core.Path.{_≡_, sym, _∙_}
 use Prim.Native.Nat.{_-_, _≤_}
-use lib.ListN.{length}
-use Rattle.run.specs.Said.{runIn}
-use Rattle.run.specs.Tables.{Matched}
 use Rattle.judging.specs.Order.{Swept}
-use Rattle.run.proofs.Listed.{ok}
-use Rattle.judging.proofs.Orders.{swept-start, swept-next}
+use Rattle.judging.proofs.Orders.{few-processes, swept-start, swept-next, swept-all}
 use Rattle.judging.proofs.order.sweep.Statement.{statement}
 use Rattle.judging.proofs.order.sweep.Tie as tie
 
 abbrev Inv-loop : tie.InvT-loop
-Inv-loop run index₀ done₀ n moved₀ p₀ index done moved p = (p ≤ n) × Matched run index × (length done ≡ 8) × Swept (runIn run) p done₀ done index moved
+Inv-loop run index₀ done₀ n moved₀ p₀ index done moved p = (p ≤ n) × Swept run n p done₀ done index moved
 
 abbrev μ-loop : tie.MeasureT-loop
 μ-loop run index₀ done₀ n moved₀ p₀ index done moved p = n - p
@@ -25,21 +21,13 @@ abbrev turn : tie.After-slice-known4 Inv-loop μ-loop → tie.In-loop Inv-loop �
 turn c = c .before .before .before .before .before .before .before
 
 loop-holds : tie.Need-loop-holds Inv-loop μ-loop
-loop-holds c =
-    let r = c .before .before .before .pre in
-    (omega arith, r .0, r .1, swept-start _ _ _ (r .3))
+loop-holds c = (omega arith, swept-start _ _ (c .before .before .before .pre))
 
 advance-requires : tie.Need-advance-requires Inv-loop μ-loop
-advance-requires c κs =
-    let t = c .before .before in
-    let i = t .before .loop .inv in
-    (i .1, i .2, entry (t .before) .pre .2, t .loop-test .taken, i .3 .sound)
+advance-requires c κs = let t = c .before .before in (t .before .loop .inv .1 .ordering, t .loop-test .taken)
 
 add-p : tie.Need-add-p Inv-loop μ-loop
-add-p c =
-    let t = turn c in
-    let r = entry (t .before) .pre in
-    omega (arith, r .2, ok _ (r .0 .listed .read) .head .few, t .loop-test .taken)
+add-p c = let t = turn c in omega (arith, few-processes (entry (t .before) .pre), t .loop-test .taken)
 
 loop-less : tie.Need-loop-less Inv-loop μ-loop
 loop-less c = omega (arith, turn c .loop-test .taken)
@@ -47,22 +35,20 @@ loop-less c = omega (arith, turn c .loop-test .taken)
 loop-again : tie.Need-loop-again Inv-loop μ-loop
 loop-again c =
     let t = turn c in
-    let r = entry (t .before) .pre in
-    let i = t .before .loop .inv in
-    let a = c .before .before .before .before .advance in
-    (omega (arith, t .loop-test .taken), a .ensures .1, a .kept .1 .1 .0 ∙ i .2, swept-next _ _ _ _ _ _ _ _ _ (omega (arith, r .2, ok _ (r .0 .listed .read) .head .few, t .loop-test .taken, i .2)) (i .3) (a .ensures .0))
+    let h = t .loop-test .taken in
+    (omega (arith, h), swept-next _ _ _ _ _ _ _ _ _ _ h (t .before .loop .inv .1) (c .before .before .before .before .advance .ensures))
 
 same-length : tie.Need-same-length Inv-loop μ-loop
-same-length c = c .before .loop .inv .1 .listed .long ∙ sym (entry (c .before) .pre .0 .listed .long)
+same-length c = let l = c .before in l .loop .inv .1 .ordering .matched .listed .long ∙ sym (entry l .pre .matched .listed .long)
 
 same-length-2 : tie.Need-same-length-2 Inv-loop μ-loop
-same-length-2 c = c .before .loop .inv .2 ∙ sym (entry (c .before) .pre .1)
+same-length-2 c = let l = c .before in l .loop .inv .1 .ordering .eight ∙ sym (entry l .pre .eight)
 
 returns : tie.Need-returns Inv-loop μ-loop
 returns c =
     let l = c .before in
     let e : l .loop .p ≡ entry l .args .n = omega (arith, l .loop .inv .0, c .loop-test .left) in
-    (rw (← e) (l .loop .inv .3), l .loop .inv .1)
+    swept-all _ _ e (l .loop .inv .1)
 
 pub sweep-spec : {M : Type 1} → statement M
 sweep-spec =

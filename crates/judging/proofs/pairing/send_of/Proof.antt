@@ -1,10 +1,13 @@
+-- `send_of` meets its contract: a send that is found behind the last one is one of all, and else all states are looked at.
 use borrow.Author.Needs.{needs}
 use native.Mathlib.Omega.{arith}
 use mathlib.Core.Path.{_∙_}
 use mathlib.Core.Bool.{true}
-use Prim.Native.Nat.{_<_}
-use Rattle.judging.proofs.Pairs.{found-near, found-at}
-use Rattle.judging.proofs.Partners.{SenderIs, sender-of}
+use Prim.Native.Nat.{ℕ, _≤_, _<_}
+use Rattle.run.specs.Said.{runIn}
+use Rattle.judging.specs.Pairing.{Carrier, Stretch, SendIs}
+use Rattle.judging.proofs.Pairs.{carrier-near, carrier-at}
+use Rattle.judging.proofs.Processes.{SenderIs, sender-of}
 use Rattle.run.proofs.Listed.{ok}
 use Rattle.judging.proofs.pairing.send_of.Statement.{statement}
 use Rattle.judging.proofs.pairing.send_of.Tie as tie
@@ -28,31 +31,32 @@ count-of-requires c κs = (entry c .pre .0 .long, sender c .row .eight)
 slice-read-behind : tie.Need-slice-read-behind
 slice-read-behind c = let o = c .before .before in omega (arith, entry o .pre .1, few o)
 
+-- the states of the sender, from one of them on
+stretch : (n : tie.After-count-of) (low : ℕ) → 1 ≤ low → let a = entry (n .before) .args in
+    Stretch (a .run .now) (a .index .now) (n .before .channel-at .result .from) low (n .count-of .result)
+stretch n low h =
+    let f = sender (n .before) in
+    record { listed = entry (n .before) .pre .0; process = f .there; first = h; last = omega (arith, n .count-of .ensures, f .row .counted) }
+
+-- a state that is found among all of them
+found : (n : tie.After-count-of) {k : ℕ} → let a = entry (n .before) .args in
+    Carrier (runIn (a .run .now)) (n .before .channel-at .result .from) 1 (n .count-of .result) true (a .message) k → SendIs (runIn (a .run .now)) (a .message) k
+found n w = let f = sender (n .before) in carrier-at _ true _ _ (f .same) (n .count-of .ensures ∙ f .counted) w
+
 find-requires : tie.Need-find-requires
-find-requires c κs =
-    let o = c .before .before .before in
-    (entry o .pre .0, sender o .there, c .behind .ensures, omega (arith, c .before .before .count-of .ensures, sender o .row .counted))
+find-requires c κs = stretch (c .before .before) _ (c .behind .ensures)
 
 slice-write-hints : tie.Need-slice-write-hints
 slice-write-hints c = let o = c .before .before .before .before .before in omega (arith, entry o .pre .1, few o)
 
 returns : tie.Need-returns
-returns c =
-    let n = c .before .before .before .before in
-    let f = sender (n .before) in
-    found-at _ true _ _ (f .same) (n .count-of .ensures ∙ f .all) (found-near (c .before .before .behind .ensures) (c .if1 .taken) (c .before .find .ensures))
+returns c = found (c .before .before .before .before) (carrier-near (c .before .before .behind .ensures) (c .if1 .taken) (c .before .find .ensures))
 
 find-requires-2 : tie.Need-find-requires-2
-find-requires-2 c κs =
-    let n = c .before .before .before .before in
-    let f = sender (n .before) in
-    (entry (n .before) .pre .0, f .there, omega arith, omega (arith, n .count-of .ensures, f .row .counted))
+find-requires-2 c κs = stretch (c .before .before .before .before) 1 (omega arith)
 
 returns-2 : tie.Need-returns-2
-returns-2 c =
-    let n = c .before .before .before .before .before in
-    let f = sender (n .before) in
-    found-at _ true _ _ (f .same) (n .count-of .ensures ∙ f .all) (c .find2 .ensures)
+returns-2 c = found (c .before .before .before .before .before) (c .find2 .ensures)
 
 pub send-of-spec : {M : Type 1} → statement M
 send-of-spec =

@@ -1,17 +1,18 @@
 -- `judge_states` meets its contract: at each way out, what the three judgements so far gave.
 use borrow.Author.Needs.{needs}
 use mathlib.Core.Path.{ap}
-use Rattle.model.specs.Run.{Known}
-use Rattle.model.specs.Cut.{Clocks}
+use Rattle.model.specs.Cut.{AfterCircle}
+use Rattle.model.specs.Known.{Known}
+use Rattle.model.specs.Clocks.{Clocks}
 use Rattle.run.specs.Said.{runIn}
-use Rattle.run.specs.Tables.{Partnered, Matched, clockIn}
-use Rattle.judging.specs.Judged.{Unpaired, Circular, Nowhere}
+use Rattle.run.specs.Index.{Partnered, clockIn}
+use Rattle.judging.specs.Judged.{Unpaired, Faultless}
 use Rattle.judging.specs.Judged.Judged.{byPairing, byCircle, byClock, wholly}
-use Rattle.judging.proofs.Verdicts.{unpaired-at, paired-none, circular-at, circular-none, clock-at, clock-none}
+use Rattle.judging.proofs.Firsts.{fault-at, no-fault}
 use Rattle.judging.proofs.whole.judge_states.Statement.{statement}
 use Rattle.judging.proofs.whole.judge_states.Tie as tie
 
--- the entry seen from behind the pairing; that seen from where it is without fault; that seen from behind the ordering, and so on
+-- the places of the code: the entry seen from behind the pairing, that seen from where it has no fault, that seen from behind the ordering, and that from where it has none
 abbrev entry : tie.After-first-unpaired → tie.Start
 entry f = f .before .before .before .before
 
@@ -24,45 +25,50 @@ past o = o .before .before
 abbrev ordering : tie.After-enum-told2 → tie.After-first-circular
 ordering t = t .before .before .before .before
 
-paired : (t : tie.After-enum-told) → Nowhere (entry (pairing t) .args .run .now) (Unpaired (entry (pairing t) .args .run .now)) × Known (runIn (entry (pairing t) .args .run .now)) × Partnered (runIn (entry (pairing t) .args .run .now)) (pairing t .first-unpaired .last .1 .0)
-paired t = paired-none (pairing t .first-unpaired .ensures .0) (t .enum-told .given .1)
+paired : (t : tie.After-enum-told) → let s = entry (pairing t) .args .run .now in
+    Faultless s (Unpaired s) × (Known (runIn s) × Partnered (runIn s) (pairing t .first-unpaired .last .1 .0))
+paired t = no-fault (pairing t .first-unpaired .ensures .0) (t .enum-told .given .1)
+
+ordered : (t : tie.After-enum-told2) → let s = entry (pairing (past (ordering t))) .args .run .now in
+    Faultless s (AfterCircle (runIn s)) × Clocks (runIn s) (clockIn (ordering t .first-circular .last .1 .0))
+ordered t = no-fault (ordering t .first-circular .ensures .0) (t .enum-told2 .given .1)
 
 first-unpaired-requires : tie.Need-first-unpaired-requires
-first-unpaired-requires c κs = let r = c .before .before .before .pre in (r .0, r .1, ap (λ h. h .processes) (r .2))
+first-unpaired-requires c κs = let r = c .before .before .before .pre in record { listed = r .0; fresh = r .1; all = ap (λ h. h .processes) (r .2) }
 
 returns : tie.Need-returns
 returns c =
-    let f = c .before .before .before .before .before .before in
-    rw (c .refusal-of .ensures) (byPairing _ (entry f .pre .0 .read) (unpaired-at _ (f .first-unpaired .ensures .0) (c .before .before .unpaired .given .1)), tt)
+    let place = c .before .before in
+    let f = place .before .before .before .before in
+    rw (c .refusal-of .ensures) (byPairing _ (entry f .pre .0 .read) (fault-at (f .first-unpaired .ensures .0) (place .unpaired .given .1)), tt)
 
 first-circular-requires : tie.Need-first-circular-requires
 first-circular-requires c κs =
     let t = c .before in
     let f = pairing t in
-    let p = paired t in
-    (record { listed = f .first-unpaired .ensures .1; known = p .1; partners = p .2 }, ap (λ h. h .processes) (entry f .pre .2))
+    let (known, partners) = paired t .1 in
+    (record { listed = f .first-unpaired .ensures .1; known = known; partners = partners }, ap (λ h. h .processes) (entry f .pre .2))
 
 returns-2 : tie.Need-returns-2
 returns-2 c =
-    let o = c .before .before .before .before .before .before in
+    let place = c .before .before in
+    let o = place .before .before .before .before in
     let t = past o in
-    rw (c .refusal-of2 .ensures) (byCircle _ (entry (pairing t) .pre .0 .read) (paired t .0) (circular-at _ (o .first-circular .ensures .0) (c .before .before .circular .given .1)), tt)
-
-ordered : (t : tie.After-enum-told2) → Nowhere (entry (pairing (past (ordering t))) .args .run .now) (Circular (entry (pairing (past (ordering t))) .args .run .now)) × Clocks (runIn (entry (pairing (past (ordering t))) .args .run .now)) (clockIn (ordering t .first-circular .last .1 .0))
-ordered t = circular-none (ordering t .first-circular .ensures .0) (t .enum-told2 .given .1)
+    rw (c .refusal-of2 .ensures) (byCircle _ (entry (pairing t) .pre .0 .read) (paired t .0) (fault-at (o .first-circular .ensures .0) (place .circular .given .1)), tt)
 
 first-wrong-clock-requires : tie.Need-first-wrong-clock-requires
 first-wrong-clock-requires c κs =
     let t = c .before in
     let o = ordering t in
-    (o .first-circular .ensures .1 .listed, ordered t .1, ap (λ h. h .processes) (entry (pairing (past o)) .pre .2))
+    record { listed = o .first-circular .ensures .1 .listed; clocks = ordered t .1; all = ap (λ h. h .processes) (entry (pairing (past o)) .pre .2) }
 
 returns-3 : tie.Need-returns-3
 returns-3 c =
-    let w = c .before .before .before .before in
+    let place = c .before .before in
+    let w = place .before .before in
     let t = w .before .before in
     let u = past (ordering t) in
-    rw (c .refusal-of3 .ensures) (byClock _ (entry (pairing u) .pre .0 .read) (paired u .0) (ordered t .0) (clock-at _ (w .first-wrong-clock .ensures) (c .before .before .wrong .given .1)), tt)
+    rw (c .refusal-of3 .ensures) (byClock _ (entry (pairing u) .pre .0 .read) (paired u .0) (ordered t .0) (fault-at (w .first-wrong-clock .ensures) (place .wrong .given .1)), tt)
 
 returns-4 : tie.Need-returns-4
 returns-4 c =
@@ -72,7 +78,7 @@ returns-4 c =
     let r = entry (pairing u) .pre in
     let m = ordering t .first-circular .ensures .1 in
     rw (r .2) (
-      wholly (r .0 .read) (paired u .0) (ordered t .0) (clock-none (w .first-wrong-clock .ensures) (c .enum-told3 .given .1)),
+      wholly (r .0 .read) (paired u .0) (ordered t .0) (no-fault (w .first-wrong-clock .ensures) (c .enum-told3 .given .1) .0),
       record { listed = m .listed; known = m .known; partners = m .partners; clocks = ordered t .1 },
     )
 

@@ -1,3 +1,4 @@
+-- `record_shown` meets its contract: where a length is there it is the stated one, and else all is shown to the end of the file.
 use borrow.Author.Needs.{needs}
 use mathlib.Core.Path.{ap, sym, _∙_}
 use mathlib.Core.Bool.{_||_}

@@ -8,15 +8,6 @@ use lib.IntN.{negsuc}
 use Rattle.record.proofs.bytes.signed_of.Statement.{statement}
 use Rattle.record.proofs.bytes.signed_of.Tie as tie
 
-cast-result : tie.Need-cast-result
-cast-result c = search needs
-
-sub-result : tie.Need-sub-result
-sub-result c = search needs
-
-cast-result-2 : tie.Need-cast-result-2
-cast-result-2 c = search needs
-
 returns : tie.Need-returns
 unfolding signed
 returns c = simp (lt-ltb _ _ (c .if1 .taken))
@@ -30,4 +21,5 @@ returns-2 c =
 
 pub signed-of-spec : {M : Type 1} → statement M
 signed-of-spec =
-    tie.close (tie.spec cast-result sub-result cast-result-2 returns returns-2)
+    tie.close (tie.spec
+    (λ c. search needs) (λ c. search needs) (λ c. search needs) returns returns-2)

@@ -3,48 +3,12 @@ use borrow.Author.Needs.{needs}
 use Rattle.record.proofs.bytes.u16_at.Statement.{statement}
 use Rattle.record.proofs.bytes.u16_at.Tie as tie
 
--- src/bytes.rt:17:10
-shared-slice-read-wide : tie.Need-shared-slice-read-wide
-shared-slice-read-wide c = search needs
-
--- src/bytes.rt:17:5
-wide-requires : tie.Need-wide-requires
-wide-requires c κs = search needs
-
--- src/bytes.rt:17:32
-add-wide : tie.Need-add-wide
-add-wide c = search needs
-
--- src/bytes.rt:17:30
-shared-slice-read-wide-2 : tie.Need-shared-slice-read-wide-2
-shared-slice-read-wide-2 c = search needs
-
--- src/bytes.rt:17:25
-wide-requires-2 : tie.Need-wide-requires-2
-wide-requires-2 c κs = search needs
-
--- src/bytes.rt:17:19
-mul-result : tie.Need-mul-result
-mul-result c = search needs
-
--- src/bytes.rt:17:5
-add-result : tie.Need-add-result
-add-result c = search needs
-
--- src/bytes.rt:13:1
 returns : tie.Need-returns
 unfolding u16At
 returns c = search needs
 
 pub u16-at-spec : {M : Type 1} → statement M
 u16-at-spec =
-    tie.close
-    (tie.spec
-    shared-slice-read-wide
-    wide-requires
-    add-wide
-    shared-slice-read-wide-2
-    wide-requires-2
-    mul-result
-    add-result
-    returns)
+    tie.close (tie.spec
+    (λ c. search needs) (λ c κs. search needs) (λ c. search needs) (λ c. search needs) (λ c κs. search needs)
+    (λ c. search needs) (λ c. search needs) returns)

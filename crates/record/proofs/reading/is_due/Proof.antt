@@ -10,13 +10,13 @@ returns c = simp (eq-eqb _ _ (c .if1 .taken))
 
 returns-2 : tie.Need-returns-2
 unfolding due
-returns-2 c = simp (ne-eqb _ _ (c .before .if1 .left), lt-ltb _ _ (c .if2 .taken))
+returns-2 c = simp (ne-eqb _ _ (c .before .before .if1 .left), lt-ltb _ _ (rw (c .before .states-place .ensures) at (c .if2 .taken)))
 
 returns-3 : tie.Need-returns-3
 unfolding due
-returns-3 c = simp (ne-eqb _ _ (c .before .if1 .left), le-ltb _ _ (c .if2 .left))
+returns-3 c = simp (ne-eqb _ _ (c .before .before .if1 .left), le-ltb _ _ (rw (c .before .states-place .ensures) at (c .if2 .left)))
 
 pub is-due-spec : {M : Type 1} → statement M
 is-due-spec =
     tie.close (tie.spec
-    returns (λ c. search needs) (λ c. search needs) returns-2 returns-3)
+    returns (λ c κs. search needs) returns-2 returns-3)

@@ -1,3 +1,4 @@
+-- `length_of` meets its contract: in each arm the key decides the tests of the definition.
 use borrow.Author.Needs.{needs}
 use Rattle.record.specs.Record.{lengthOf}
 use borrow.Author.Tests.{ne-eqb}
@@ -14,7 +15,7 @@ returns-2 c = simp (c .match .keys2)
 
 returns-3 : tie.Need-returns-3
 unfolding lengthOf
-returns-3 c = simp (c .match .keys3)
+returns-3 c = simp (c .before .match .keys3) (c .state-length .ensures)
 
 returns-4 : tie.Need-returns-4
 unfolding lengthOf
@@ -22,32 +23,9 @@ returns-4 c = simp (c .match .keys4)
 
 returns-5 : tie.Need-returns-5
 unfolding lengthOf
-returns-5 c = simp (c .match .keys5)
-
-returns-6 : tie.Need-returns-6
-unfolding lengthOf
-returns-6 c = simp (c .match .keys6)
-
-returns-7 : tie.Need-returns-7
-unfolding lengthOf
-returns-7 c = simp (c .match .keys7)
-
-returns-8 : tie.Need-returns-8
-unfolding lengthOf
-returns-8 c =
-    let n = c .match .rest in
-    simp (
-      ne-eqb _ _ (n .0 .0 .0 .0 .0 .0 .1),
-      ne-eqb _ _ (n .0 .0 .0 .0 .0 .1),
-      ne-eqb _ _ (n .0 .0 .0 .0 .1),
-      ne-eqb _ _ (n .0 .0 .0 .1),
-      ne-eqb _ _ (n .0 .0 .1),
-      ne-eqb _ _ (n .0 .1),
-      ne-eqb _ _ (n .1),
-    )
+returns-5 c = let n = c .match .rest in simp (ne-eqb _ _ (n .0 .0 .0 .1), ne-eqb _ _ (n .0 .0 .1), ne-eqb _ _ (n .0 .1), ne-eqb _ _ (n .1))
 
 pub length-of-spec : {M : Type 1} → statement M
 length-of-spec =
     tie.close (tie.spec
-    (λ c. search needs) (λ c. search needs) returns returns-2 returns-3 returns-4 returns-5 returns-6 returns-7
-    returns-8)
+    (λ c κs. search needs) returns returns-2 returns-3 returns-4 returns-5)

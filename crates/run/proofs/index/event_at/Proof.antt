@@ -1,7 +1,7 @@
 use native.Mathlib.Omega.{arith}
 use mathlib.Core.Path.{ap, _∙_}
-use Rattle.record.specs.Record.{fieldsAt}
-use Rattle.run.specs.States.{eventOf}
+use Rattle.record.specs.Record.{stateFieldsAt}
+use Rattle.states.specs.States.{eventOf}
 use Rattle.run.proofs.Listed.{listed-slot, listed-whole, listed-event}
 use Rattle.run.proofs.index.event_at.Statement.{statement}
 use Rattle.run.proofs.index.event_at.Tie as tie
@@ -15,8 +15,9 @@ state-at-requires c κs = let r = c .before .before .before .pre in omega (arith
 returns : tie.Need-returns
 returns c =
     let r = c .before .before .before .before .pre in
-    let a = c .before .before .before .before .args in
-    ap (λ x. x .event) (c .state-at .ensures) ∙ ap (λ q. eventOf (fieldsAt (a .run .now) q)) (c .before .place-of .ensures) ∙ listed-event _ _ (r .0) _ _ (r .1)
+    let said = ap (λ x. x .event) (c .state-at .ensures) in
+    let place = ap (λ q. eventOf (stateFieldsAt (c .before .before .before .before .args .run .now) q)) (c .before .place-of .ensures) in
+    said ∙ place ∙ listed-event _ _ (r .0) _ _ (r .1)
 
 pub event-at-spec : {M : Type 1} → statement M
 event-at-spec = tie.close (tie.spec place-of-requires state-at-requires returns)

@@ -1,6 +1,6 @@
 use borrow.Author.Needs.{needs}
 use native.Mathlib.Omega.{arith}
-use Rattle.run.specs.Tables.{placeAt}
+use Rattle.run.specs.Index.{placeAt}
 use Rattle.run.proofs.index.place_of.Statement.{statement}
 use Rattle.run.proofs.index.place_of.Tie as tie
 

@@ -1,6 +1,7 @@
-use borrow.Author.Needs.{needs}
+use mathlib.Core.Path.{ap}
 use borrow.Author.Tests.{lt-ltb, le-ltb}
-use Rattle.run.specs.Read.{ended}
+use Rattle.run.specs.declared.RunReading.the-variants.{Accepted}
+use Rattle.record.specs.Pass.{ended}
 use Rattle.run.proofs.pass.end_of.Statement.{statement}
 use Rattle.run.proofs.pass.end_of.Tie as tie
 
@@ -10,9 +11,7 @@ returns c = simp (lt-ltb _ _ (c .if1 .taken))
 
 returns-2 : tie.Need-returns-2
 unfolding ended
-returns-2 c = simp (le-ltb _ _ (c .before .if1 .left)) (cc)
+returns-2 c = simp (le-ltb _ _ (c .if1 .left)) (ap Accepted (c .before .pre))
 
 pub end-of-spec : {M : Type 1} → statement M
-end-of-spec =
-    tie.close (tie.spec
-    returns (λ c κs. search needs) returns-2)
+end-of-spec = tie.close (tie.spec returns returns-2)

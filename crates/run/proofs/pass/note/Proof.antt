@@ -7,7 +7,7 @@ keep-requires : tie.Need-keep-requires
 keep-requires c κs =
     let r = c .before .before .before .before .before .pre in
     let w = rw (c .before .before .item .given .1) at (r .1) in
-    (r .0, w .0, w .1, r .2)
+    record { long = r .0; process = w .0; room = w .1; place = r .2 }
 
 returns : tie.Need-returns
 returns c = rw (c .enum-told .given .1) refl

@@ -3,19 +3,18 @@ use borrow.Author.Needs.{needs}
 use native.Mathlib.Omega.{arith}
 use mathlib.Core.Path.{_≡_, sym, ap, _∙_}
 use denote.Ref.{now}
-use Prim.Native.Nat.{ℕ, _-_}
+use Prim.Native.Nat.{_-_}
 use lib.ListN.{length, length-replicate}
-use Rattle.model.specs.Run.{processes}
-use Rattle.model.specs.Cut.{IsCut}
+use Rattle.model.specs.Total.{total}
 use Rattle.run.specs.Said.{runIn}
 use Rattle.condition.specs.Clauses.{clausesOf}
-use Rattle.search.specs.Search.{Lowest}
-use Rattle.search.proofs.Moving.{Named, search-start, search-found, moved-process, search-nowhere, search-move, search-less, total}
+use Rattle.search.specs.Search.{LowestCut}
+use Rattle.search.proofs.Moving.{Located, search-start, search-found, moved-process, search-none, search-move, search-less}
 use Rattle.search.proofs.eliminate.search.Statement.{statement}
 use Rattle.search.proofs.eliminate.search.Tie as tie
 
 abbrev Inv-loop : tie.InvT-loop
-Inv-loop run index cond clauses cut₀ cut = IsCut (runIn run) cut × Lowest (runIn run) (clausesOf cond clauses) cut
+Inv-loop run index cond clauses cut₀ cut = LowestCut (runIn run) (clausesOf cond clauses) cut
 
 abbrev μ-loop : tie.MeasureT-loop
 μ-loop run index cond clauses cut₀ cut = 4096 - total cut
@@ -28,14 +27,14 @@ abbrev turn : tie.After-named Inv-loop μ-loop → tie.At-loop Inv-loop μ-loop
 turn c = c .before .before .before .before
 
 -- who is named has to move, and the index and the cut have it
-mover : (c : tie.After-named Inv-loop μ-loop) → Named (entry (turn c) .pre .0) (turn c .loop .cut) (turn c .loop .inv .0) (turn c .loop .inv .1) (c .named .given .0 .0)
-mover c = let l = turn c in moved-process (entry l .pre .0) (l .loop .cut) (l .loop .inv .0) (l .loop .inv .1) (c .named .given .1) (c .before .before .first-mover .ensures)
+mover : (c : tie.After-named Inv-loop μ-loop) → Located (entry (turn c) .pre .0) (turn c .loop .cut) (turn c .loop .inv) (c .named .given .0 .0)
+mover c = let l = turn c in moved-process (entry l .pre .0) (l .loop .cut) (l .loop .inv) (c .named .given .1) (c .before .before .first-mover .ensures)
 
 loop-holds : tie.Need-loop-holds Inv-loop μ-loop
 loop-holds c = let r = c .before .before .before .before .before .pre in search-start (r .0) _ (r .1)
 
 first-mover-requires : tie.Need-first-mover-requires Inv-loop μ-loop
-first-mover-requires c κs = let l = c .before in (entry l .pre .0, l .loop .inv .0, l .loop .inv .1)
+first-mover-requires c κs = let l = c .before in (entry l .pre .0, l .loop .inv)
 
 mul-at : tie.Need-mul-at Inv-loop μ-loop
 mul-at c = omega (arith, mover (c .before) .row)
@@ -47,7 +46,7 @@ cast-count-of : tie.Need-cast-count-of Inv-loop μ-loop
 cast-count-of c = record { fits = omega (arith, mover (c .before .before) .row) }
 
 count-of-requires : tie.Need-count-of-requires Inv-loop μ-loop
-count-of-requires c κs = let n = c .before .before in (entry (turn n) .pre .0 .tables .listed .long, mover n .row)
+count-of-requires c κs = let n = c .before .before in (entry (turn n) .pre .0 .index .listed .long, mover n .row)
 
 -- the process has a further state: the cut moves on
 abbrev on : tie.Else1 Inv-loop μ-loop → tie.After-named Inv-loop μ-loop
@@ -66,17 +65,17 @@ loop-less : tie.Need-loop-less Inv-loop μ-loop
 loop-less c =
     let n = mover (on c) in
     let l = turn (on c) in
-    search-less (entry l .pre .0) (l .loop .cut) (l .loop .inv .0) (l .loop .inv .1) _ (n .there) (n .must) (omega (arith, n .counted, c .before .count-of .ensures, c .if1 .left))
+    search-less (entry l .pre .0) (l .loop .cut) (l .loop .inv) _ (n .there) (n .must) (omega (arith, n .counted, c .before .count-of .ensures, c .if1 .left))
 
 loop-again : tie.Need-loop-again Inv-loop μ-loop
 loop-again c =
     let n = mover (on c) in
     let l = turn (on c) in
-    search-move (entry l .pre .0) (l .loop .cut) (l .loop .inv .0) (l .loop .inv .1) _ (n .there) (n .must) (omega (arith, n .counted, c .before .count-of .ensures, c .if1 .left))
+    search-move (entry l .pre .0) (l .loop .cut) (l .loop .inv) _ (n .there) (n .must) (omega (arith, n .counted, c .before .count-of .ensures, c .if1 .left))
 
 -- the row keeps its length
 kept-long : (l : tie.At-loop Inv-loop μ-loop) → length (l .loop .cut) ≡ length (now (entry l .args .cut))
-kept-long l = l .loop .inv .0 .size ∙ sym (ap length (entry l .pre .1) ∙ length-replicate _ 1)
+kept-long l = l .loop .inv .isCut .size ∙ sym (ap length (entry l .pre .1) ∙ length-replicate _ 1)
 
 same-length : tie.Need-same-length Inv-loop μ-loop
 same-length c = kept-long (c .before .before .before .before)
@@ -85,17 +84,17 @@ same-length c = kept-long (c .before .before .before .before)
 returns : tie.Need-returns Inv-loop μ-loop
 returns c =
     let l = c .before .before .before .before in
-    search-found (entry l .pre .0) (l .loop .cut) (l .loop .inv .0) (l .loop .inv .1) (c .enum-told .given .1) (c .before .before .first-mover .ensures)
+    search-found (entry l .pre .0) (l .loop .cut) (l .loop .inv) (c .enum-told .given .1) (c .before .before .first-mover .ensures)
 
 same-length-2 : tie.Need-same-length-2 Inv-loop μ-loop
 same-length-2 c = kept-long (turn (c .before .before .before .before))
 
--- a history runs out: nowhere
+-- a history runs out: none
 returns-2 : tie.Need-returns-2 Inv-loop μ-loop
 returns-2 c =
     let n = mover (c .before .before .before .before) in
     let l = turn (c .before .before .before .before) in
-    search-nowhere (entry l .pre .0) (l .loop .cut) (l .loop .inv .0) (l .loop .inv .1) _ (n .there) (n .must) (omega (arith, n .counted, c .before .count-of .ensures, c .if1 .taken))
+    search-none (entry l .pre .0) (l .loop .cut) (l .loop .inv) _ (n .there) (n .must) (omega (arith, n .counted, c .before .count-of .ensures, c .if1 .taken))
 
 pub search-spec : {M : Type 1} → statement M
 search-spec =

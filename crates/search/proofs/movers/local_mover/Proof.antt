@@ -1,3 +1,4 @@
+-- `local_mover` meets its contract: a local clause is about the state that the cut has for its process.
 use borrow.Author.Needs.{needs}
 use native.Mathlib.Omega.{arith}
 use mathlib.Core.Path.{_≡_, sym, _∙_}
@@ -11,39 +12,34 @@ use Rattle.search.proofs.Tests.{local-true, local-false}
 use Rattle.search.proofs.movers.local_mover.Statement.{statement}
 use Rattle.search.proofs.movers.local_mover.Tie as tie
 
+-- the entry, seen from behind the look at the value, and the process, which the run has
+abbrev entry : tie.After-local-holds → tie.Start
+entry h = h .before .before .before .before .before .before .before
+
+abbrev start : tie.After-struct-told → tie.Start
+start t = t .before .before .before .before .before .before
+
+process : (u : tie.Start) → u .args .clause .process < processes (runIn (u .args .run .now))
+process u = let r = u .pre in omega (arith, r .2 .process, processes-are _ (r .0 .listed .read))
+
+-- the constant comes back from its bits
+constant : (u : tie.Start) → toZ w32 (ofZ w32 (u .args .clause .constant)) ≡ u .args .clause .constant
+constant u = search needs
+
 shared-slice-read-k : tie.Need-shared-slice-read-k
-shared-slice-read-k c =
-    let r = c .before .before .before .before .before .pre in
-    let a = c .before .before .before .before .before .args in
-    let read = r .0 .listed .read in
-    let h : a .clause .process < processes (runIn (a .run .now)) = omega (arith, r .2 .process, processes-are _ read) in
-    omega (arith, r .1 .size)
+shared-slice-read-k c = let u = c .before .before .before .before .before in omega (arith, u .pre .1 .size, process u)
 
 local-holds-requires : tie.Need-local-holds-requires
 local-holds-requires c κs =
-    let r = c .before .before .before .before .before .before .pre in
-    let a = c .before .before .before .before .before .before .args in
-    let read = r .0 .listed .read in
-    let h : a .clause .process < processes (runIn (a .run .now)) = omega (arith, r .2 .process, processes-are _ read) in
-    (r .0, r .1 .states _ h, r .2 .value)
+    let u = start c in
+    let r = u .pre in
+    (r .0, r .1 .states _ (process u), r .2 .value)
 
 returns : tie.Need-returns
-returns c =
-    let r = c .before .before .before .before .before .before .before .before .pre in
-    let a = c .before .before .before .before .before .before .before .before .args in
-    let read = r .0 .listed .read in
-    let h : a .clause .process < processes (runIn (a .run .now)) = omega (arith, r .2 .process, processes-are _ read) in
-    let e : toZ w32 (ofZ w32 (a .clause .constant)) ≡ a .clause .constant = search needs in
-    local-true _ _ _ _ _ _ e (sym (c .before .local-holds .ensures) ∙ c .if1 .taken)
+returns c = let h = c .before in local-true _ _ _ _ _ _ (constant (entry h)) (sym (h .local-holds .ensures) ∙ c .if1 .taken)
 
 returns-2 : tie.Need-returns-2
-returns-2 c =
-    let r = c .before .before .before .before .before .before .before .before .pre in
-    let a = c .before .before .before .before .before .before .before .before .args in
-    let read = r .0 .listed .read in
-    let h : a .clause .process < processes (runIn (a .run .now)) = omega (arith, r .2 .process, processes-are _ read) in
-    let e : toZ w32 (ofZ w32 (a .clause .constant)) ≡ a .clause .constant = search needs in
-    local-false _ _ _ _ _ _ h e (sym (c .before .local-holds .ensures) ∙ c .if1 .left)
+returns-2 c = let h = c .before in local-false _ _ _ _ _ _ (process (entry h)) (constant (entry h)) (sym (h .local-holds .ensures) ∙ c .if1 .left)
 
 pub local-mover-spec : {M : Type 1} → statement M
 local-mover-spec =

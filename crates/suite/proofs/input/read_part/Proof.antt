@@ -18,7 +18,10 @@ slice-aggregate-read-full : tie.Need-slice-aggregate-read-full
 slice-aggregate-read-full c = sym (length-take-le _ _ (omega (arith, c)))
 
 returns-2 : tie.Need-returns-2
-returns-2 c = front _ (c .before .before .read-full .last .1 .0) (drop (c .before .before .before .before .before .before .args .n) (c .before .before .before .before .before .before .args .buffer .now)) (c .before .before .read-full .ensures .0)
+returns-2 c =
+    let f = c .before .before in
+    let u = f .before .before .before .before in
+    front _ (f .read-full .last .1 .0) (drop (u .args .n) (u .args .buffer .now)) (f .read-full .ensures .0)
 
 pub read-part-spec : {M : Type 1} → statement M
 read-part-spec =

@@ -1,0 +1,40 @@
+// All channels at a given cut over one judged run: asked one by one, each would judge the whole run again.
+use crate::Counts;
+use cut::choice::is_cut;
+use cut::listing::count_each;
+use judging::whole::judge_run;
+use record::File;
+use record::Head;
+use record::reasons::CUT;
+use record::reasons::NO_ROOM;
+use record::reasons::refusal_of;
+use run::RunReading;
+ghost use Rattle.judging.specs.Told.{Told};
+ghost use Rattle.questions.specs.Questions.{AskedEach};
+
+// Of an accepted run: 16, 15, or the numbers.
+fn list_in(run: &[u8], index: &[u16], cut: &[u16], head: Head, lent: &mut [u16]) -> Counts
+    requires { ⌜ Told (now run) (now index) head ⌝ }
+    ensures { λ r. ⌜ AskedEach (now (run .entry)) (now (cut .entry)) (now (lent .entry)) (now (lent .exit)) r ⌝ }
+{
+    if !is_cut(index, cut, head.processes) {
+        return Counts::Refused(refusal_of(File::Run, CUT, 0));
+    }
+    if lent.len() < head.channels as usize {
+        return Counts::Refused(refusal_of(File::Run, NO_ROOM, 0));
+    }
+    count_each(run, index, cut, head.channels, lent);
+    Counts::Counted
+}
+
+// How many messages are in transit on each channel at the cut, consistent or not, into the first lent places.
+pub fn messages_on_each(run: &[u8], cut: &[u16], lent: &mut [u16]) -> Counts
+    ensures { λ r. ⌜ AskedEach (now (run .entry)) (now (cut .entry)) (now (lent .entry)) (now (lent .exit)) r ⌝ }
+{
+    let mut index = [0u16; 40968];
+    let reading = judge_run(run, &mut index);
+    match reading {
+        RunReading::Refused(refusal) => Counts::Refused(refusal),
+        RunReading::Accepted(head) => list_in(run, &index, cut, head, lent),
+    }
+}

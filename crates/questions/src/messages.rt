@@ -1,0 +1,39 @@
+// How many messages are on a channel at a cut?
+use crate::Count;
+use cut::choice::is_cut;
+use cut::transit::count_on;
+use judging::whole::judge_run;
+use record::File;
+use record::Head;
+use record::reasons::CHANNEL;
+use record::reasons::CUT;
+use record::reasons::refusal_of;
+use run::RunReading;
+ghost use Rattle.judging.specs.Told.{Told};
+ghost use Rattle.questions.specs.Questions.{AskedMessages};
+
+// Of an accepted run: 16, 17, or the count.
+fn messages_in(run: &[u8], index: &[u16], cut: &[u16], channel: u16, head: Head) -> Count
+    requires { ⌜ Told (now run) (now index) head ⌝ }
+    ensures { λ r. ⌜ AskedMessages (now (run .entry)) (now (cut .entry)) channel r ⌝ }
+{
+    if !is_cut(index, cut, head.processes) {
+        return Count::Refused(refusal_of(File::Run, CUT, 0));
+    }
+    if head.channels <= channel {
+        return Count::Refused(refusal_of(File::Run, CHANNEL, 0));
+    }
+    Count::Messages(count_on(run, index, cut, channel))
+}
+
+// How many messages are in transit on a channel at the cut, consistent or not.
+pub fn messages_on(run: &[u8], cut: &[u16], channel: u16) -> Count
+    ensures { λ r. ⌜ AskedMessages (now (run .entry)) (now (cut .entry)) channel r ⌝ }
+{
+    let mut index = [0u16; 40968];
+    let reading = judge_run(run, &mut index);
+    match reading {
+        RunReading::Refused(refusal) => Count::Refused(refusal),
+        RunReading::Accepted(head) => messages_in(run, &index, cut, channel, head),
+    }
+}

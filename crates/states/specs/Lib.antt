@@ -1,0 +1,3 @@
+pub mod States
+pub mod Judge
+pub mod Inner

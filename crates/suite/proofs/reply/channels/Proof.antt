@@ -1,0 +1,14 @@
+use borrow.Author.Needs.{needs}
+use mathlib.Core.Path.{sym}
+use lib.Seq.{length-take-le}
+use Rattle.suite.proofs.reply.channels.Statement.{statement}
+use Rattle.suite.proofs.reply.channels.Tie as tie
+
+slice-aggregate-messages-on-each : tie.Need-slice-aggregate-messages-on-each
+slice-aggregate-messages-on-each c = sym (length-take-le _ _ (c .before .filled .ensures))
+
+pub channels-spec : {M : Type 1} → statement M
+channels-spec =
+    tie.close (tie.spec
+    (λ c κs. search needs) (λ c κs. search needs) slice-aggregate-messages-on-each (λ c κs. search needs)
+    (λ c. search needs) (λ c. search needs) (λ c. search needs) (λ c. search needs) (λ c. search needs) (λ c. search needs))

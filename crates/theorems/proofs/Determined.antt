@@ -1,0 +1,183 @@
+-- Each public contract allows one answer: any two answers that it allows for the same input are equal, with the lent places that they leave.
+use mathlib.Core.Path.{_≡_, refl, sym, ap, _∙_}
+use mathlib.Core.Logic.{⊎-elim}
+use mathlib.Core.List.{List}
+use Prim.Native.Nat.{ℕ, suc, _≤_, _<_}
+use native.Mathlib.Omega.{arith}
+use lib.ListN.{length}
+use lib.Seq.{ext-getD}
+use Rattle.model.proofs.Numbers.{never}
+use Rattle.model.proofs.Lists.{le-or-lt}
+use Rattle.model.proofs.Lattice.{first-unique}
+use Rattle.record.specs.declared.Refusal.{Refusal}
+use Rattle.judging.specs.Judged.{Judged}
+use Rattle.run.specs.declared.RunReading.the-variants as R
+use Rattle.judging.proofs.Once.{judged-one}
+use Rattle.record.specs.Pass as D
+use Rattle.record.specs.Pass.Read.{refused, accepted}
+use Rattle.checker.specs.declared.Answer.{Answer}
+use Rattle.checker.specs.declared.Answer.the-variants as A
+use Rattle.questions.specs.declared.Count.{Count}
+use Rattle.questions.specs.declared.Count.the-variants as C
+use Rattle.questions.specs.declared.Counts.{Counts}
+use Rattle.questions.specs.declared.Counts.the-variants as N
+use Rattle.questions.specs.declared.Verdict.{Verdict}
+use Rattle.questions.specs.declared.Verdict.the-variants as W
+use Rattle.judging.specs.Accepted.{RunAccepted}
+use Rattle.cut.specs.Listing.{Wrote}
+use Rattle.checker.specs.Answered.{Answered, AnsweredListed}
+use Rattle.checker.specs.Answered.Answered.{runRefused, condRefused, few, none, tooEarly, found}
+use Rattle.questions.specs.Questions.{AskedConsistent, AskedMessages, AskedEach, AskedSatisfies}
+
+-- the lent places are determined by the cut
+pub wrote-one : {cut lent a b : List ℕ} → Wrote cut lent a → Wrote cut lent b → a ≡ b
+wrote-one {cut} {lent} {a} {b} v w = ext-getD 0 a b (v .long ∙ sym (w .long))
+    (λ i h. ⊎-elim (λ l. v .front i l ∙ sym (w .front i l)) (λ l. v .past i (less l) ∙ sym (w .past i (less l))) (le-or-lt (suc i) (length cut)))
+  where
+    less : {i n : ℕ} → n < suc i → n ≤ i
+    less l = omega arith
+
+-- a condition is refused once, and no accepted one is refused
+same-condition : {v : D.Read} {x y : Refusal} → v ≡ refused x → v ≡ refused y → x ≡ y
+same-condition d e = cc
+
+not-read : {v : D.Read} {x : Refusal} {places : List ℕ} → v ≡ refused x → v ≡ accepted places → ⊥
+not-read d e = never (cc)
+
+module _ {s : List ℕ} where
+  -- a run is refused once, and no accepted run is refused
+  same-refusal : {x y : Refusal} → Judged s (R.Refused x) → Judged s (R.Refused y) → x ≡ y
+  same-refusal j k = let e = judged-one s j k in cc
+
+  not-both : {x : Refusal} → Judged s (R.Refused x) → RunAccepted s → ⊥
+  not-both j k = let e = judged-one s j k in never (cc)
+
+  pub answered-one : {c lent l m : List ℕ} {a b : Answer} → Answered s c lent l a → Answered s c lent m b → (a ≡ b) × (l ≡ m)
+  answered-one (runRefused x v e) (runRefused x′ v′ e′) = (ap A.Refused (same-refusal v v′), e ∙ sym e′)
+  answered-one (runRefused x v e) (condRefused x′ v′ r′ e′) = absurd (not-both v v′)
+  answered-one (runRefused x v e) (few v′ h′ e′) = absurd (not-both v (v′ .run))
+  answered-one (runRefused x v e) (none v′ h′ n′ e′) = absurd (not-both v (v′ .run))
+  answered-one (runRefused x v e) (tooEarly v′ h′ cut′ f′ n′ e′) = absurd (not-both v (v′ .run))
+  answered-one (runRefused x v e) (found v′ h′ cut′ f′ b′ g′) = absurd (not-both v (v′ .run))
+  answered-one (condRefused x v r e) (runRefused x′ v′ e′) = absurd (not-both v′ v)
+  answered-one (condRefused x v r e) (condRefused x′ v′ r′ e′) = (ap A.Refused (same-condition r r′), e ∙ sym e′)
+  answered-one (condRefused x v r e) (few v′ h′ e′) = absurd (not-read r (v′ .cond))
+  answered-one (condRefused x v r e) (none v′ h′ n′ e′) = absurd (not-read r (v′ .cond))
+  answered-one (condRefused x v r e) (tooEarly v′ h′ cut′ f′ n′ e′) = absurd (not-read r (v′ .cond))
+  answered-one (condRefused x v r e) (found v′ h′ cut′ f′ b′ g′) = absurd (not-read r (v′ .cond))
+  answered-one (few v h e) (runRefused x′ v′ e′) = absurd (not-both v′ (v .run))
+  answered-one (few v h e) (condRefused x′ v′ r′ e′) = absurd (not-read r′ (v .cond))
+  answered-one (few v h e) (few v′ h′ e′) = (refl, e ∙ sym e′)
+  answered-one (few v h e) (none v′ h′ n′ e′) = absurd (omega (arith, h, h′))
+  answered-one (few v h e) (tooEarly v′ h′ cut′ f′ n′ e′) = absurd (omega (arith, h, h′))
+  answered-one (few v h e) (found v′ h′ cut′ f′ b′ g′) = absurd (omega (arith, h, h′))
+  answered-one (none v h n e) (runRefused x′ v′ e′) = absurd (not-both v′ (v .run))
+  answered-one (none v h n e) (condRefused x′ v′ r′ e′) = absurd (not-read r′ (v .cond))
+  answered-one (none v h n e) (few v′ h′ e′) = absurd (omega (arith, h, h′))
+  answered-one (none v h n e) (none v′ h′ n′ e′) = (refl, e ∙ sym e′)
+  answered-one (none v h n e) (tooEarly v′ h′ cut′ f′ n′ e′) = absurd (n cut′ (f′ .satisfies))
+  answered-one (none v h n e) (found v′ h′ cut′ f′ b′ g′) = absurd (n cut′ (f′ .satisfies))
+  answered-one (tooEarly v h cut f n e) (runRefused x′ v′ e′) = absurd (not-both v′ (v .run))
+  answered-one (tooEarly v h cut f n e) (condRefused x′ v′ r′ e′) = absurd (not-read r′ (v .cond))
+  answered-one (tooEarly v h cut f n e) (few v′ h′ e′) = absurd (omega (arith, h, h′))
+  answered-one (tooEarly v h cut f n e) (none v′ h′ n′ e′) = absurd (n′ cut (f .satisfies))
+  answered-one (tooEarly v h cut f n e) (tooEarly v′ h′ cut′ f′ n′ e′) = (refl, e ∙ sym e′)
+  answered-one (tooEarly v h cut f n e) (found v′ h′ cut′ f′ b′ g′) = absurd (n (rw (first-unique f f′) b′))
+  answered-one (found v h cut f b g) (runRefused x′ v′ e′) = absurd (not-both v′ (v .run))
+  answered-one (found v h cut f b g) (condRefused x′ v′ r′ e′) = absurd (not-read r′ (v .cond))
+  answered-one (found v h cut f b g) (few v′ h′ e′) = absurd (omega (arith, h, h′))
+  answered-one (found v h cut f b g) (none v′ h′ n′ e′) = absurd (n′ cut (f .satisfies))
+  answered-one (found v h cut f b g) (tooEarly v′ h′ cut′ f′ n′ e′) = absurd (n′ (rw (first-unique f′ f) b))
+  answered-one (found v h cut f b g) (found v′ h′ cut′ f′ b′ g′) = (refl, wrote-one g (rw (first-unique f f′) g′))
+
+  pub listed-one : {c lent l m row q r : List ℕ} {a b : Answer} → AnsweredListed s c lent l row q a → AnsweredListed s c lent m row r b → (a ≡ b) × (l ≡ m) × (q ≡ r)
+  listed-one (AnsweredListed.fewRow v h d e) (AnsweredListed.fewRow v′ h′ d′ e′) = (refl, d ∙ sym d′, e ∙ sym e′)
+  listed-one (AnsweredListed.fewRow v h d e) (AnsweredListed.unlisted b n g w e′) = absurd (omega (arith, h, g v))
+  listed-one (AnsweredListed.fewRow v h d e) (AnsweredListed.listed g w cut f u) = absurd (omega (arith, h, g))
+  listed-one (AnsweredListed.unlisted a n g w e) (AnsweredListed.fewRow v h d e′) = absurd (omega (arith, h, g v))
+  listed-one (AnsweredListed.unlisted a n g w e) (AnsweredListed.unlisted b n′ g′ w′ e′) = let (x, y) = answered-one w w′ in (x, y, e ∙ sym e′)
+  listed-one (AnsweredListed.unlisted a n g w e) (AnsweredListed.listed h w′ cut f u) = absurd (n (answered-one w w′ .0))
+  listed-one (AnsweredListed.listed g w cut f u) (AnsweredListed.fewRow v h d e) = absurd (omega (arith, h, g))
+  listed-one (AnsweredListed.listed g w cut f u) (AnsweredListed.unlisted b n h w′ e) = absurd (n (answered-one w′ w .0))
+  listed-one (AnsweredListed.listed g w cut f u) (AnsweredListed.listed h w′ cut′ f′ u′) = (refl, answered-one w w′ .1, wrote-one u (rw (first-unique f f′) u′))
+
+  pub consistent-one : {cut : List ℕ} {a b : Verdict} → AskedConsistent s cut a → AskedConsistent s cut b → a ≡ b
+  consistent-one (AskedConsistent.runRefused x j) (AskedConsistent.runRefused y k) = ap W.Refused (same-refusal j k)
+  consistent-one (AskedConsistent.runRefused x j) (AskedConsistent.notCut k n) = absurd (not-both j k)
+  consistent-one (AskedConsistent.runRefused x j) (AskedConsistent.yes k i t) = absurd (not-both j k)
+  consistent-one (AskedConsistent.runRefused x j) (AskedConsistent.no k i t) = absurd (not-both j k)
+  consistent-one (AskedConsistent.notCut j n) (AskedConsistent.runRefused y k) = absurd (not-both k j)
+  consistent-one (AskedConsistent.notCut j n) (AskedConsistent.notCut k m) = refl
+  consistent-one (AskedConsistent.notCut j n) (AskedConsistent.yes k i t) = absurd (n i)
+  consistent-one (AskedConsistent.notCut j n) (AskedConsistent.no k i t) = absurd (n i)
+  consistent-one (AskedConsistent.yes j i t) (AskedConsistent.runRefused y k) = absurd (not-both k j)
+  consistent-one (AskedConsistent.yes j i t) (AskedConsistent.notCut k n) = absurd (n i)
+  consistent-one (AskedConsistent.yes j i t) (AskedConsistent.yes k l u) = refl
+  consistent-one (AskedConsistent.yes j i t) (AskedConsistent.no k l u) = absurd (u t)
+  consistent-one (AskedConsistent.no j i t) (AskedConsistent.runRefused y k) = absurd (not-both k j)
+  consistent-one (AskedConsistent.no j i t) (AskedConsistent.notCut k n) = absurd (n i)
+  consistent-one (AskedConsistent.no j i t) (AskedConsistent.yes k l u) = absurd (t u)
+  consistent-one (AskedConsistent.no j i t) (AskedConsistent.no k l u) = refl
+
+  pub messages-one : {cut : List ℕ} {channel : ℕ} {a b : Count} → AskedMessages s cut channel a → AskedMessages s cut channel b → a ≡ b
+  messages-one (AskedMessages.runRefused x j) (AskedMessages.runRefused y k) = ap C.Refused (same-refusal j k)
+  messages-one (AskedMessages.runRefused x j) (AskedMessages.notCut k m) = absurd (not-both j k)
+  messages-one (AskedMessages.runRefused x j) (AskedMessages.noSuchChannel k l h) = absurd (not-both j k)
+  messages-one (AskedMessages.runRefused x j) (AskedMessages.messages k l h) = absurd (not-both j k)
+  messages-one (AskedMessages.notCut j n) (AskedMessages.runRefused y k) = absurd (not-both k j)
+  messages-one (AskedMessages.notCut j n) (AskedMessages.notCut k m) = refl
+  messages-one (AskedMessages.notCut j n) (AskedMessages.noSuchChannel k l h) = absurd (n l)
+  messages-one (AskedMessages.notCut j n) (AskedMessages.messages k l h) = absurd (n l)
+  messages-one (AskedMessages.noSuchChannel j i g) (AskedMessages.runRefused y k) = absurd (not-both k j)
+  messages-one (AskedMessages.noSuchChannel j i g) (AskedMessages.notCut k m) = absurd (m i)
+  messages-one (AskedMessages.noSuchChannel j i g) (AskedMessages.noSuchChannel k l h) = refl
+  messages-one (AskedMessages.noSuchChannel j i g) (AskedMessages.messages k l h) = absurd (omega (arith, g, h))
+  messages-one (AskedMessages.messages j i g) (AskedMessages.runRefused y k) = absurd (not-both k j)
+  messages-one (AskedMessages.messages j i g) (AskedMessages.notCut k m) = absurd (m i)
+  messages-one (AskedMessages.messages j i g) (AskedMessages.noSuchChannel k l h) = absurd (omega (arith, g, h))
+  messages-one (AskedMessages.messages j i g) (AskedMessages.messages k l h) = refl
+
+  pub each-one : {cut lent l m : List ℕ} {a b : Counts} → AskedEach s cut lent l a → AskedEach s cut lent m b → (a ≡ b) × (l ≡ m)
+  each-one (AskedEach.runRefused x j d) (AskedEach.runRefused y k e) = (ap N.Refused (same-refusal j k), d ∙ sym e)
+  each-one (AskedEach.runRefused x j d) (AskedEach.notCut k m e) = absurd (not-both j k)
+  each-one (AskedEach.runRefused x j d) (AskedEach.few k l h e) = absurd (not-both j k)
+  each-one (AskedEach.runRefused x j d) (AskedEach.listed k l h v) = absurd (not-both j k)
+  each-one (AskedEach.notCut j n d) (AskedEach.runRefused y k e) = absurd (not-both k j)
+  each-one (AskedEach.notCut j n d) (AskedEach.notCut k m e) = (refl, d ∙ sym e)
+  each-one (AskedEach.notCut j n d) (AskedEach.few k l h e) = absurd (n l)
+  each-one (AskedEach.notCut j n d) (AskedEach.listed k l h v) = absurd (n l)
+  each-one (AskedEach.few j i g d) (AskedEach.runRefused y k e) = absurd (not-both k j)
+  each-one (AskedEach.few j i g d) (AskedEach.notCut k m e) = absurd (m i)
+  each-one (AskedEach.few j i g d) (AskedEach.few k l h e) = (refl, d ∙ sym e)
+  each-one (AskedEach.few j i g d) (AskedEach.listed k l h v) = absurd (omega (arith, g, h))
+  each-one (AskedEach.listed j i g w) (AskedEach.runRefused y k e) = absurd (not-both k j)
+  each-one (AskedEach.listed j i g w) (AskedEach.notCut k m e) = absurd (m i)
+  each-one (AskedEach.listed j i g w) (AskedEach.few k l h e) = absurd (omega (arith, g, h))
+  each-one (AskedEach.listed j i g w) (AskedEach.listed k l h v) = (refl, wrote-one w v)
+
+  pub satisfies-one : {c cut : List ℕ} {a b : Verdict} → AskedSatisfies s c cut a → AskedSatisfies s c cut b → a ≡ b
+  satisfies-one (AskedSatisfies.runRefused x j) (AskedSatisfies.runRefused y k) = ap W.Refused (same-refusal j k)
+  satisfies-one (AskedSatisfies.runRefused x j) (AskedSatisfies.conditionRefused y k e) = absurd (not-both j k)
+  satisfies-one (AskedSatisfies.runRefused x j) (AskedSatisfies.notCut k e m) = absurd (not-both j k)
+  satisfies-one (AskedSatisfies.runRefused x j) (AskedSatisfies.yes k e u) = absurd (not-both j k)
+  satisfies-one (AskedSatisfies.runRefused x j) (AskedSatisfies.no k e l u) = absurd (not-both j k)
+  satisfies-one (AskedSatisfies.conditionRefused x j d) (AskedSatisfies.runRefused y k) = absurd (not-both k j)
+  satisfies-one (AskedSatisfies.conditionRefused x j d) (AskedSatisfies.conditionRefused y k e) = ap W.Refused (same-condition d e)
+  satisfies-one (AskedSatisfies.conditionRefused x j d) (AskedSatisfies.notCut k e m) = absurd (not-read d e)
+  satisfies-one (AskedSatisfies.conditionRefused x j d) (AskedSatisfies.yes k e u) = absurd (not-read d e)
+  satisfies-one (AskedSatisfies.conditionRefused x j d) (AskedSatisfies.no k e l u) = absurd (not-read d e)
+  satisfies-one (AskedSatisfies.notCut j d n) (AskedSatisfies.runRefused y k) = absurd (not-both k j)
+  satisfies-one (AskedSatisfies.notCut j d n) (AskedSatisfies.conditionRefused y k e) = absurd (not-read e d)
+  satisfies-one (AskedSatisfies.notCut j d n) (AskedSatisfies.notCut k e m) = refl
+  satisfies-one (AskedSatisfies.notCut j d n) (AskedSatisfies.yes k e u) = absurd (n (u .isCut))
+  satisfies-one (AskedSatisfies.notCut j d n) (AskedSatisfies.no k e l u) = absurd (n l)
+  satisfies-one (AskedSatisfies.yes j d t) (AskedSatisfies.runRefused y k) = absurd (not-both k j)
+  satisfies-one (AskedSatisfies.yes j d t) (AskedSatisfies.conditionRefused y k e) = absurd (not-read e d)
+  satisfies-one (AskedSatisfies.yes j d t) (AskedSatisfies.notCut k e m) = absurd (m (t .isCut))
+  satisfies-one (AskedSatisfies.yes j d t) (AskedSatisfies.yes k e u) = refl
+  satisfies-one (AskedSatisfies.yes j d t) (AskedSatisfies.no k e l u) = absurd (u t)
+  satisfies-one (AskedSatisfies.no j d i t) (AskedSatisfies.runRefused y k) = absurd (not-both k j)
+  satisfies-one (AskedSatisfies.no j d i t) (AskedSatisfies.conditionRefused y k e) = absurd (not-read e d)
+  satisfies-one (AskedSatisfies.no j d i t) (AskedSatisfies.notCut k e m) = absurd (m i)
+  satisfies-one (AskedSatisfies.no j d i t) (AskedSatisfies.yes k e u) = absurd (t u)
+  satisfies-one (AskedSatisfies.no j d i t) (AskedSatisfies.no k e l u) = refl
