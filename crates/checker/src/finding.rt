@@ -12,6 +12,7 @@ use record::reasons::EARLY;
 use record::reasons::NO_ROOM;
 use record::reasons::refusal_of;
 use run::RunReading;
+use run::index::INDEX_SIZE;
 use search::Outcome;
 use search::eliminate::search;
 ghost use Prim.Native.Nat.{_≤_};
@@ -84,7 +85,7 @@ fn with_condition(run: &[u8], index: &[u16], cond: &[u8], head: Head, lent: &mut
 pub fn first_cut(run: &[u8], cond: &[u8], lent: &mut [u16]) -> Answer
     ensures { λ r. ⌜ Answered (now (run .entry)) (now (cond .entry)) (now (lent .entry)) (now (lent .exit)) r ⌝ }
 {
-    let mut index = [0u16; 40968];
+    let mut index = [0u16; INDEX_SIZE];
     let reading = judge_run(run, &mut index);
     match reading {
         RunReading::Refused(refusal) => Answer::Refused(refusal),
@@ -135,7 +136,7 @@ fn listed_for(
 pub fn first_cut_listed(run: &[u8], cond: &[u8], lent: &mut [u16], row: &mut [u16]) -> Answer
     ensures { λ r. ⌜ AnsweredListed (now (run .entry)) (now (cond .entry)) (now (lent .entry)) (now (lent .exit)) (now (row .entry)) (now (row .exit)) r ⌝ }
 {
-    let mut index = [0u16; 40968];
+    let mut index = [0u16; INDEX_SIZE];
     let reading = judge_run(run, &mut index);
     match reading {
         RunReading::Refused(refusal) => Answer::Refused(refusal),

@@ -9,11 +9,11 @@ ghost use lib.ListN.{length};
 ghost use Rattle.model.specs.Cut.{IsCut};
 ghost use Rattle.record.specs.Record.{headOf};
 ghost use Rattle.run.specs.Said.{runIn};
-ghost use Rattle.run.specs.Index.{Listed};
+ghost use Rattle.run.specs.Index.{Listed, indexSize};
 
 // Of a run of n processes whose states the index has.
 pub fn is_cut(index: &[u16], cut: &[u16], n: u16) -> bool
-    requires { ⌜ (length (now index) ≡ 40968) × (n ≤ 8) ⌝ }
+    requires { ⌜ (length (now index) ≡ indexSize) × (n ≤ 8) ⌝ }
     ensures { λ r. ⌜ ((s : List ℕ) → Listed s (now (index .entry)) → n ≡ headOf s .processes → (r ≡ true) ↔ IsCut (runIn s) (now (cut .entry))) ⌝ }
 {
     if cut.len() != n as usize {

@@ -4,12 +4,12 @@ use run::index::clock_of;
 ghost use mathlib.Core.Path.{_≡_};
 ghost use Prim.Native.Nat.{_<_};
 ghost use lib.ListN.{length};
-ghost use Rattle.run.specs.Index.{clockIn};
+ghost use Rattle.run.specs.Index.{clockIn, indexSize};
 ghost use Rattle.cut.specs.Clocks.{InTable, behindOf, tooLow, ConsistentIs};
 
 // The first process that is behind j's clock.
 pub fn behind(index: &[u16], cut: &[u16], j: usize) -> HasToMove
-    requires { ⌜ (length (now index) ≡ 40968) × InTable (now cut) × (j < length (now cut)) ⌝ }
+    requires { ⌜ (length (now index) ≡ indexSize) × InTable (now cut) × (j < length (now cut)) ⌝ }
     ensures { λ r. ⌜ r ≡ behindOf (clockIn (now (index .entry))) (now (cut .entry)) j ⌝ }
 {
     let k = cut[j];
@@ -26,7 +26,7 @@ pub fn behind(index: &[u16], cut: &[u16], j: usize) -> HasToMove
 
 // Of the processes in order, the first whose clock somebody is behind: who is.
 pub fn too_low(index: &[u16], cut: &[u16]) -> HasToMove
-    requires { ⌜ (length (now index) ≡ 40968) × InTable (now cut) ⌝ }
+    requires { ⌜ (length (now index) ≡ indexSize) × InTable (now cut) ⌝ }
     ensures { λ r. ⌜ r ≡ tooLow (clockIn (now (index .entry))) (now (cut .entry)) ⌝ }
 {
     let mut j = 0;
@@ -42,7 +42,7 @@ pub fn too_low(index: &[u16], cut: &[u16]) -> HasToMove
 
 // No chosen state is before another, in a run whose clocks the index holds.
 pub fn consistent(index: &[u16], cut: &[u16]) -> bool
-    requires { ⌜ (length (now index) ≡ 40968) × InTable (now cut) ⌝ }
+    requires { ⌜ (length (now index) ≡ indexSize) × InTable (now cut) ⌝ }
     ensures { λ r. ⌜ ConsistentIs (now (index .entry)) (now (cut .entry)) r ⌝ }
 {
     let found = too_low(index, cut);

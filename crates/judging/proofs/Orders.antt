@@ -27,7 +27,7 @@ use Rattle.model.proofs.Circle.{Direct, clear, waiting-circle}
 use Rattle.model.proofs.Clock.{clock-own, clock-first, clock-step, clock-receive}
 use Rattle.record.specs.Bytes.{u16At}
 use Rattle.run.specs.Said.{runIn, placeOf}
-use Rattle.run.specs.Index.{slot, partnerAt, clockRow, clockIn, Partnered}
+use Rattle.run.specs.Index.{slot, partnerAt, clockRow, clockIn, Partnered, indexSize}
 use Rattle.run.proofs.Listed.{ok, processes-are}
 use Rattle.run.proofs.Kept.{kept-matched}
 use Rattle.judging.specs.Inner.{Clocked}
@@ -106,7 +106,7 @@ module _ {ix : List ℕ} {p k i l : ℕ} (room : ClockRoom ix p k i l) (other : 
       ahead : numberAt ix′ i l x ≡ numberAt ix i l x
       ahead = stays i l (λ d. let z = other d in ⊎-elim (λ g. inr (omega arith)) (λ g. inl (omega arith)) (le-or-lt (suc p) i))
 
-  pub written-next : (n : ℕ) → n < 8 → (ix′ : List ℕ) → length ix′ ≡ 40968 → Written n p k i l ix ix′ → (v : ℕ) → v ≡ numberOf ix′ p k i l n
+  pub written-next : (n : ℕ) → n < 8 → (ix′ : List ℕ) → length ix′ ≡ indexSize → Written n p k i l ix ix′ → (v : ℕ) → v ≡ numberOf ix′ p k i l n
       → Written (n + 1) p k i l ix (set ix′ (clockRow p k + n) v)
   written-next n h ix′ long w v q = record {
     row = λ x g. below-next (λ x. clockIn (set ix′ (clockRow p k + n) v) p k x ≡ numberOf ix p k i l x) g

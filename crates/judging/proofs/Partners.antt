@@ -13,7 +13,7 @@ use Rattle.model.specs.declared.Message.{Message}
 use Rattle.model.specs.declared.Event.the-variants.{Receive}
 use Rattle.model.specs.Run.{Run, state, into, count, IsState}
 use Rattle.model.proofs.Pairing.{view, sent-there, received-there}
-use Rattle.run.specs.Index.{partnerAt, Fresh}
+use Rattle.run.specs.Index.{partnerAt, Fresh, indexSize, partnersPart}
 use Rattle.judging.proofs.Firsts.{each-next}
 use Rattle.judging.proofs.Processes.{Small, slot-one}
 use Rattle.judging.proofs.Pairs.{not-both}
@@ -27,13 +27,13 @@ pub record Partway (r : Run) (p k : ℕ) (ix ix′ : List ℕ) : Type 0 where
   pub kept : (j l : ℕ) → IsState r j l → j ≢ p → Met r ix j l → Met r ix′ j l
 
 module _ (r : Run) (small : Small r) where
-  entry-inside : {i k : ℕ} (ix : List ℕ) → length ix ≡ 40968 → IsState r i k → partnerAt i k < length ix
+  entry-inside : {i k : ℕ} (ix : List ℕ) → length ix ≡ indexSize → IsState r i k → partnerAt i k < length ix
   entry-inside {i} {k} ix long w = omega (arith, small i k w, w .counted, long)
 
   entry-one : {i k j l : ℕ} → IsState r i k → IsState r j l → partnerAt i k ≡ partnerAt j l → (i ≡ j) × (k ≡ l)
   entry-one w v e = slot-one r small w v (omega arith)
 
-  module _ (p k : ℕ) (ix ix′ : List ℕ) (long : length ix ≡ 40968) (e : Entered r p k ix ix′) where
+  module _ (p k : ℕ) (ix ix′ : List ℕ) (long : length ix ≡ indexSize) (e : Entered r p k ix ix′) where
     send : IsState r (e .process) (e .state)
     send = sent-there (view (e .pair) .send)
 
@@ -111,7 +111,7 @@ module _ (r : Run) (small : Small r) where
     kept = λ j l s d w. w;
   }
 
-  pub partway-next : (p k : ℕ) (ix mid ix′ marks′ : List ℕ) → length mid ≡ 40968 → IsState r p k → Partway r p k ix mid → Settled r p k mid ix′ marks′ false
+  pub partway-next : (p k : ℕ) (ix mid ix′ marks′ : List ℕ) → length mid ≡ indexSize → IsState r p k → Partway r p k ix mid → Settled r p k mid ix′ marks′ false
       → Partway r p (k + 1) ix ix′
   unfolding Met
   partway-next p k ix mid ix′ marks′ long here w v = ⊎-elim quiet enter (v .entered refl)
@@ -163,7 +163,7 @@ rising-start r sends p marks (suc l) m h e = absurd (omega arith)
 
 -- ---- process by process
 
-pub processes-start : (r : Run) (bad ix : List ℕ) → Fresh 4104 ix → ProcessesPaired r 0 bad ix
+pub processes-start : (r : Run) (bad ix : List ℕ) → Fresh partnersPart ix → ProcessesPaired r 0 bad ix
 unfolding Backed
 processes-start r bad ix e = record {
   faulty = λ p h. absurd (omega arith);

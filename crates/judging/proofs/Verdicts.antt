@@ -31,7 +31,7 @@ use Rattle.run.specs.Read.{readOf}
 use Rattle.record.specs.Pass.Read.{refused, accepted}
 use Rattle.record.specs.Pass.{placesIn}
 use Rattle.run.specs.Said.{statesOf, runIn, placeOf}
-use Rattle.run.specs.Index.{partnerAt, Partnered, Listed, Fresh}
+use Rattle.run.specs.Index.{partnerAt, Partnered, Listed, Fresh, indexSize, partnersPart}
 use Rattle.run.specs.Inner.{reading, RunPassed}
 use Rattle.run.proofs.Listed.{sides, process-of, place-rises, listed-count}
 use Rattle.judging.specs.declared.FirstFault.{FirstFault}
@@ -208,11 +208,11 @@ refused-by-pass {s} x w same = go (readOf s) (sym same ∙ w .answer)
     go (refused y) e = cc
     go (accepted qs) e = never (cc)
 
-pub listed-by-pass : {s ix : List ℕ} {r : RunReading} (h : Head) → RunPassed s (readOf s) r ix → r ≡ Accepted h → length ix ≡ 40968 → Listed s ix × Fresh 4104 ix × (h ≡ headOf s)
+pub listed-by-pass : {s ix : List ℕ} {r : RunReading} (h : Head) → RunPassed s (readOf s) r ix → r ≡ Accepted h → length ix ≡ indexSize → Listed s ix × Fresh partnersPart ix × (h ≡ headOf s)
 unfolding statesOf
 listed-by-pass {s} {ix} h w same long = go (readOf s) refl (sym same ∙ w .answer)
   where
-    go : (v : Read) → readOf s ≡ v → Accepted h ≡ reading s v → Listed s ix × Fresh 4104 ix × (h ≡ headOf s)
+    go : (v : Read) → readOf s ≡ v → Accepted h ≡ reading s v → Listed s ix × Fresh partnersPart ix × (h ≡ headOf s)
     go (refused y) d e = never (cc)
     go (accepted qs) d e =
         let states : readOf s ≡ accepted (statesOf s) = d ∙ ap accepted (sym (ap placesIn d)) in

@@ -12,7 +12,7 @@ use Rattle.record.specs.Record.{headOf}
 use Rattle.run.specs.declared.RunReading.{RunReading}
 use Rattle.run.specs.declared.RunReading.the-variants.{Accepted, Refused}
 use Rattle.run.specs.Said.{runIn}
-use Rattle.run.specs.Index.{Listed, Fresh, Partnered, clockIn, IndexHolds}
+use Rattle.run.specs.Index.{Listed, Fresh, Partnered, clockIn, IndexHolds, indexSize, partnersPart}
 use Rattle.judging.specs.declared.FirstFault.{FirstFault}
 use Rattle.judging.specs.Judged.{Unpaired, WrongClock}
 use Rattle.judging.specs.Firsts.{FirstJudged}
@@ -20,7 +20,7 @@ use Rattle.judging.specs.Firsts.{FirstJudged}
 -- what the pass leaves of a run of n processes: its states are listed, and nothing else is entered
 pub record NewlyListed (s ix : List ℕ) (n : ℕ) : Type 0 where
   pub listed : Listed s ix
-  pub fresh : Fresh 4104 ix
+  pub fresh : Fresh partnersPart ix
   pub all : n ≡ headOf s .processes
 
 -- an accepted run of n processes with its clocks
@@ -38,7 +38,7 @@ pub record Undone (n : ℕ) (ix done bad : List ℕ) : Type 0 where
 
 -- tables that have an entry for each of n processes
 pub record ProcessRoom (n : ℕ) (ix done bad : List ℕ) : Type 0 where
-  pub long : length ix ≡ 40968
+  pub long : length ix ≡ indexSize
   pub eightDone : length done ≡ 8
   pub eightBad : length bad ≡ 8
   pub few : n ≤ 8

@@ -14,7 +14,7 @@ use Rattle.model.specs.Run.{Run, count, processes, into, IsState, Paired}
 use Rattle.model.specs.Cut.{AfterCircle, ClockIs}
 use Rattle.record.specs.Record.{headOf}
 use Rattle.run.specs.Said.{runIn}
-use Rattle.run.specs.Index.{clockRow, clockIn, HasSlot, Matched}
+use Rattle.run.specs.Index.{clockRow, clockIn, HasSlot, Matched, indexSize}
 use Rattle.judging.specs.Judged.{WrongClock}
 use Rattle.model.specs.Total.{total}
 
@@ -32,7 +32,7 @@ pub record SlotOrNone (p k : ℕ) : Type 0 where
 
 -- the index has room for the clock of a state, and for that of the state ahead of its send
 pub record ClockRoom (ix : List ℕ) (p k i l : ℕ) : Type 0 where
-  pub long : length ix ≡ 40968
+  pub long : length ix ≡ indexSize
   pub own : HasSlot p k
   pub ahead : SlotOrNone i l
 

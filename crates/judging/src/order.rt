@@ -18,7 +18,7 @@ ghost use lib.ListN.{length, replicate};
 ghost use Rattle.model.specs.Run.{IsState};
 ghost use Rattle.record.specs.Record.{headOf};
 ghost use Rattle.run.specs.Said.{runIn};
-ghost use Rattle.run.specs.Index.{Matched};
+ghost use Rattle.run.specs.Index.{Matched, indexSize};
 ghost use Rattle.judging.specs.Judged.{WrongClock};
 ghost use Rattle.judging.specs.Inner.{Clocked};
 ghost use Rattle.judging.specs.Firsts.{FirstOf, FirstsTo};
@@ -62,7 +62,7 @@ fn larger(a: u16, b: u16) -> u16
 
 // Place i of the clock of state k of process p, 0 where k is 0.
 fn number_at(index: &[u16], p: u16, k: u16, i: u16) -> u16
-    requires { ⌜ (length (now index) ≡ 40968) × SlotOrNone p k × (i < 8) ⌝ }
+    requires { ⌜ (length (now index) ≡ indexSize) × SlotOrNone p k × (i < 8) ⌝ }
     ensures { λ r. ⌜ r ≡ numberAt (now (index .entry)) p k i ⌝ }
 {
     if k == 0 {

@@ -17,7 +17,7 @@ ghost use mathlib.Core.Path.{_≡_};
 ghost use Prim.Native.Nat.{_≤_};
 ghost use lib.ListN.{replicate};
 ghost use Rattle.record.specs.Record.{headOf};
-ghost use Rattle.run.specs.Index.{Listed, Matched, Fresh};
+ghost use Rattle.run.specs.Index.{Listed, Matched, Fresh, indexSize, partnersPart};
 ghost use Rattle.judging.specs.Judged.{Judged};
 ghost use Rattle.judging.specs.Inner.{Clocked, nextOf, Undone, ProcessRoom, CircleJudged, ClockJudged, Ready};
 
@@ -66,7 +66,7 @@ pub fn first_wrong_clock(run: &[u8], index: &[u16], n: u16) -> FirstFault
 
 // 11, then 12, then 13.
 fn judge_states(run: &[u8], index: &mut [u16], head: Head) -> RunReading
-    requires { ⌜ Listed (now run) (now index) × Fresh 4104 (now index) × (head ≡ headOf (now run)) ⌝ }
+    requires { ⌜ Listed (now run) (now index) × Fresh partnersPart (now index) × (head ≡ headOf (now run)) ⌝ }
     ensures { λ r. ⌜ Judged (now (run .entry)) r × Ready (now (run .entry)) (now (index .exit)) r ⌝ }
 {
     let n = head.processes;
@@ -87,7 +87,7 @@ fn judge_states(run: &[u8], index: &mut [u16], head: Head) -> RunReading
 
 // A whole run: its index filled, or the first refusal. The index comes as zeros, which every caller has just made it.
 pub fn judge_run(run: &[u8], index: &mut [u16]) -> RunReading
-    requires { ⌜ now index ≡ replicate 40968 0 ⌝ }
+    requires { ⌜ now index ≡ replicate indexSize 0 ⌝ }
     ensures { λ r. ⌜ Judged (now (run .entry)) r × Ready (now (run .entry)) (now (index .exit)) r ⌝ }
 {
     let reading = read_run(run, index);

@@ -8,6 +8,7 @@ use record::Head;
 use record::reasons::CUT;
 use record::reasons::refusal_of;
 use run::RunReading;
+use run::index::INDEX_SIZE;
 ghost use Rattle.judging.specs.Told.{Told};
 ghost use Rattle.questions.specs.Questions.{AskedConsistent};
 
@@ -29,7 +30,7 @@ fn consistent_in(run: &[u8], index: &[u16], cut: &[u16], head: Head) -> Verdict
 pub fn is_consistent(run: &[u8], cut: &[u16]) -> Verdict
     ensures { λ r. ⌜ AskedConsistent (now (run .entry)) (now (cut .entry)) r ⌝ }
 {
-    let mut index = [0u16; 40968];
+    let mut index = [0u16; INDEX_SIZE];
     let reading = judge_run(run, &mut index);
     match reading {
         RunReading::Refused(refusal) => Verdict::Refused(refusal),

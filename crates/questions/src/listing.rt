@@ -9,6 +9,7 @@ use record::reasons::CUT;
 use record::reasons::NO_ROOM;
 use record::reasons::refusal_of;
 use run::RunReading;
+use run::index::INDEX_SIZE;
 ghost use Rattle.judging.specs.Told.{Told};
 ghost use Rattle.questions.specs.Questions.{AskedEach};
 
@@ -31,7 +32,7 @@ fn list_in(run: &[u8], index: &[u16], cut: &[u16], head: Head, lent: &mut [u16])
 pub fn messages_on_each(run: &[u8], cut: &[u16], lent: &mut [u16]) -> Counts
     ensures { λ r. ⌜ AskedEach (now (run .entry)) (now (cut .entry)) (now (lent .entry)) (now (lent .exit)) r ⌝ }
 {
-    let mut index = [0u16; 40968];
+    let mut index = [0u16; INDEX_SIZE];
     let reading = judge_run(run, &mut index);
     match reading {
         RunReading::Refused(refusal) => Counts::Refused(refusal),

@@ -9,6 +9,7 @@ use record::reasons::CHANNEL;
 use record::reasons::CUT;
 use record::reasons::refusal_of;
 use run::RunReading;
+use run::index::INDEX_SIZE;
 ghost use Rattle.judging.specs.Told.{Told};
 ghost use Rattle.questions.specs.Questions.{AskedMessages};
 
@@ -30,7 +31,7 @@ fn messages_in(run: &[u8], index: &[u16], cut: &[u16], channel: u16, head: Head)
 pub fn messages_on(run: &[u8], cut: &[u16], channel: u16) -> Count
     ensures { λ r. ⌜ AskedMessages (now (run .entry)) (now (cut .entry)) channel r ⌝ }
 {
-    let mut index = [0u16; 40968];
+    let mut index = [0u16; INDEX_SIZE];
     let reading = judge_run(run, &mut index);
     match reading {
         RunReading::Refused(refusal) => Count::Refused(refusal),

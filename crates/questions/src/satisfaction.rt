@@ -9,6 +9,7 @@ use record::Head;
 use record::reasons::CUT;
 use record::reasons::refusal_of;
 use run::RunReading;
+use run::index::INDEX_SIZE;
 use search::satisfying::satisfied;
 ghost use Rattle.judging.specs.Told.{Told};
 ghost use Rattle.search.specs.Prepared.{Prepared};
@@ -55,7 +56,7 @@ fn satisfies_in(run: &[u8], index: &[u16], cond: &[u8], cut: &[u16], head: Head)
 pub fn satisfies(run: &[u8], cond: &[u8], cut: &[u16]) -> Verdict
     ensures { λ r. ⌜ AskedSatisfies (now (run .entry)) (now (cond .entry)) (now (cut .entry)) r ⌝ }
 {
-    let mut index = [0u16; 40968];
+    let mut index = [0u16; INDEX_SIZE];
     let reading = judge_run(run, &mut index);
     match reading {
         RunReading::Refused(refusal) => Verdict::Refused(refusal),

@@ -15,7 +15,7 @@ use Rattle.record.specs.Record.{stateFieldsAt}
 use Rattle.states.specs.States.{placesOf}
 use Rattle.run.proofs.Places.{put}
 use Rattle.run.specs.Read.{countsOf}
-use Rattle.run.specs.Index.{Indexed, Fresh}
+use Rattle.run.specs.Index.{Indexed, Fresh, indexSize, partnersPart}
 use Rattle.states.proofs.Tabulate.{tabulate-length, tabulate-at}
 
 places-snoc : (s qs : List ℕ) (q p : ℕ) → placesOf s (qs ++ (q ∷ [])) p ≡ placesOf s qs p ++ put (eqb (stateFieldsAt s q .process) p) q []
@@ -45,7 +45,7 @@ unfolding countsOf
 counts-length s qs = tabulate-length 8 (λ p. length (placesOf s qs p))
 
 -- the counts are the first eight entries
-pub counts-eight : (ix : List ℕ) → length ix ≡ 40968 → length (take 8 ix) ≡ 8
+pub counts-eight : (ix : List ℕ) → length ix ≡ indexSize → length (take 8 ix) ≡ 8
 counts-eight ix e = length-take-le 8 ix (omega (arith, e))
 
 -- process p has one state more, at the place at
@@ -89,7 +89,7 @@ module _ (s qs ix : List ℕ) (at p : ℕ) (own : stateFieldsAt s at .process �
   counted : take 8 (set mid p (n + 1)) ≡ countsOf s qs′
   counted = take-set-lt 8 mid p (n + 1) row ∙ ap (λ l. set l p (n + 1)) (take-set-le 8 ix (8 + (512 * p + n)) at (omega arith)) ∙ counts
 
-  placed : length ix ≡ 40968 → n < 512 → (p′ i : ℕ) → p′ < 8 → i < length (placesOf s qs′ p′)
+  placed : length ix ≡ indexSize → n < 512 → (p′ i : ℕ) → p′ < 8 → i < length (placesOf s qs′ p′)
       → getD mid (8 + (512 * p′ + i)) 0 ≡ getD (placesOf s qs′ p′) i 0
   placed long room p′ i l h = elim (ℕ-discrete p′ p) [
     | yes e ↦ own-row p′ e h
@@ -114,7 +114,7 @@ module _ (s qs ix : List ℕ) (at p : ℕ) (own : stateFieldsAt s at .process �
               getD-set-other ix (8 + (512 * p + n)) (8 + (512 * p + i)) at 0 (λ z. omega arith) ∙ w .placed p i row b
               ∙ sym (List·getD-append (placesOf s qs p) (at ∷ []) 0 i b)
 
-  pub index-more : length ix ≡ 40968 → n < 512 → Indexed s qs′ (set mid p (n + 1))
+  pub index-more : length ix ≡ indexSize → n < 512 → Indexed s qs′ (set mid p (n + 1))
   index-more long room = record {
     counted = counted;
     few = λ p′ l. elim (ℕ-discrete p′ p) [
@@ -125,5 +125,5 @@ module _ (s qs ix : List ℕ) (at p : ℕ) (own : stateFieldsAt s at .process �
   }
 
   -- nothing is written from 4104 on
-  pub fresh-more : n < 512 → Fresh 4104 ix → Fresh 4104 (set mid p (n + 1))
+  pub fresh-more : n < 512 → Fresh partnersPart ix → Fresh partnersPart (set mid p (n + 1))
   fresh-more room w x h = getD-set-other mid p x (n + 1) 0 (λ z. omega arith) ∙ getD-set-other ix (8 + (512 * p + n)) x at 0 (λ z. omega arith) ∙ w x h

@@ -9,7 +9,7 @@ use lib.Seq.{ext-getD, getD-set-other, getD-take}
 use Rattle.model.specs.Run.{channel, IsState, Paired}
 use Rattle.model.proofs.Pairing.{view, sent-there, received-there}
 use Rattle.run.specs.Said.{runIn}
-use Rattle.run.specs.Index.{partnerAt, Listed, Partnered, Matched, Kept}
+use Rattle.run.specs.Index.{partnerAt, Listed, Partnered, Matched, Kept, clocksPart, partnersPart}
 use Rattle.run.proofs.Indexing.{counts-eight}
 use Rattle.run.proofs.Listed.{listed-slot}
 
@@ -26,7 +26,7 @@ pub kept-less : {n m : ℕ} {ix ix′ : List ℕ} → m ≤ n → Kept n ix ix�
 kept-less g w = record { long = w .long; same = λ x h. w .same x (omega arith) }
 
 -- the states stay where nothing below 4104 is written
-pub kept-listed : {s ix ix′ : List ℕ} → Kept 4104 ix ix′ → Listed s ix → Listed s ix′
+pub kept-listed : {s ix ix′ : List ℕ} → Kept partnersPart ix ix′ → Listed s ix → Listed s ix′
 kept-listed {s} {ix} {ix′} k w = record {
   read = w .read;
   index = record {
@@ -44,7 +44,7 @@ kept-listed {s} {ix} {ix′} k w = record {
         getD-take 8 ix′ i 0 l ∙ k .same i (omega arith) ∙ sym (getD-take 8 ix i 0 l))
 
 -- the partners stay where nothing below 8200 is written
-pub kept-partnered : {s ix ix′ : List ℕ} → Kept 8200 ix ix′ → Listed s ix → Partnered (runIn s) ix → Partnered (runIn s) ix′
+pub kept-partnered : {s ix ix′ : List ℕ} → Kept clocksPart ix ix′ → Listed s ix → Partnered (runIn s) ix → Partnered (runIn s) ix′
 kept-partnered {s} {ix} {ix′} k w v = record {
   sent = λ i n j l q. same i n (sent-there (view q .send)) ∙ v .sent i n j l q;
   received = λ i n j l q. same j l (received-there (view q .receive)) ∙ v .received i n j l q;
@@ -54,7 +54,7 @@ kept-partnered {s} {ix} {ix′} k w v = record {
     same : (i n : ℕ) → IsState (runIn s) i n → getD ix′ (partnerAt i n) 0 ≡ getD ix (partnerAt i n) 0
     same i n t = let h = listed-slot s ix w t in k .same (partnerAt i n) (omega (arith, h .process, h .counted, h .few))
 
-pub kept-matched : {s ix ix′ : List ℕ} → Kept 8200 ix ix′ → Matched s ix → Matched s ix′
+pub kept-matched : {s ix ix′ : List ℕ} → Kept clocksPart ix ix′ → Matched s ix → Matched s ix′
 kept-matched k w = record {
   listed = kept-listed (kept-less (omega arith) k) (w .listed);
   known = w .known;

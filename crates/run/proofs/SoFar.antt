@@ -24,7 +24,7 @@ use Rattle.states.specs.Judge.{judgeNo}
 use Rattle.states.proofs.Laws.{state-ok, state-there}
 use Rattle.run.specs.declared.RunReading.{RunReading}
 use Rattle.run.specs.Read.{countsOf, given, more, isEnd, runPass}
-use Rattle.run.specs.Index.{Indexed, Fresh}
+use Rattle.run.specs.Index.{Indexed, Fresh, indexSize, partnersPart}
 use Rattle.run.specs.Inner.{StateRoomy, StateNoted, reading, RunPassed}
 use Rattle.run.proofs.Indexing.{index-more, fresh-more}
 use Rattle.run.proofs.Accepted.{record-stepped, RunAlong, along-start, along-next}
@@ -34,10 +34,10 @@ pub record IndexSoFar (s ix : List ℕ) (at : ℕ) : Type 0 where
   pub here : Here (runPass s) at states
   pub along : RunAlong s at states
   pub index : Indexed s states ix
-  pub fresh : Fresh 4104 ix
-  pub long : length ix ≡ 40968
+  pub fresh : Fresh partnersPart ix
+  pub long : length ix ≡ indexSize
 
-pub so-far-start : (s ix : List ℕ) → ix ≡ replicate 40968 0 → IndexSoFar s ix 0
+pub so-far-start : (s ix : List ℕ) → ix ≡ replicate indexSize 0 → IndexSoFar s ix 0
 unfolding countsOf placesOf Rattle.states.specs.States.tabulate
 so-far-start s ix e = record {
   states = [];
@@ -45,14 +45,14 @@ so-far-start s ix e = record {
   along = along-start s;
   index = record { counted = ap (take 8) e; few = λ p l. omega arith; placed = λ p i l h. absurd (omega arith) };
   fresh = λ x h. ap (λ l. getD l x 0) e ∙ zero-at x;
-  long = ap length e ∙ length-replicate {A = ℕ} 40968 0;
+  long = ap length e ∙ length-replicate {A = ℕ} indexSize 0;
 }
   where
-    zero-at : (x : ℕ) → _≡_ {A = ℕ} (getD (replicate 40968 0) x 0) 0
+    zero-at : (x : ℕ) → _≡_ {A = ℕ} (getD (replicate indexSize 0) x 0) 0
     zero-at x = ⊎-elim
-        (λ h. getD-replicate 40968 x 0 0 h)
-        (λ h. List·getD-eq-default (replicate 40968 0) 0 {n = x} (omega (arith, length-replicate {A = ℕ} 40968 0)))
-        (le-or-lt (suc x) 40968)
+        (λ h. getD-replicate indexSize x 0 0 h)
+        (λ h. List·getD-eq-default (replicate indexSize 0) 0 {n = x} (omega (arith, length-replicate {A = ℕ} indexSize 0)))
+        (le-or-lt (suc x) indexSize)
 
 module _ (s ix : List ℕ) (at : ℕ) (w : IndexSoFar s ix at) where
   abbrev cs : List ℕ
@@ -84,7 +84,7 @@ module _ (s ix : List ℕ) (at : ℕ) (w : IndexSoFar s ix at) where
         (row, rw (getD-take 8 ix (f .process) 0 row) at (k .room))
 
     -- a record that isn't the end, and what is noted of it
-    index-of : (r : Record) → r ≡ recordAt s at → StateRoomy r ix → (ix′ : List ℕ) → StateNoted r at ix ix′ → Indexed s (more r at qs) ix′ × Fresh 4104 ix′
+    index-of : (r : Record) → r ≡ recordAt s at → StateRoomy r ix → (ix′ : List ℕ) → StateNoted r at ix ix′ → Indexed s (more r at qs) ix′ × Fresh partnersPart ix′
     index-of (R.Head h) e m ix′ v = rw v (w .index, w .fresh)
     index-of (R.Channel l) e m ix′ v = rw v (w .index, w .fresh)
     index-of R.End e m ix′ v = rw v (w .index, w .fresh)
@@ -125,7 +125,7 @@ passed-refused s x ix e a = record {
   fresh = λ qs z. never (cc);
 }
 
-pub passed-end : (s : List ℕ) {v : Read} (next : ℕ) (qs ix : List ℕ) {r : RunReading} → Indexed s qs ix → Fresh 4104 ix
+pub passed-end : (s : List ℕ) {v : Read} (next : ℕ) (qs ix : List ℕ) {r : RunReading} → Indexed s qs ix → Fresh partnersPart ix
     → v ≡ ended Run s next qs → r ≡ reading s (ended Run s next []) → RunPassed s v r ix
 passed-end s {v} next qs ix {r} w f = by-end (λ end. v ≡ end qs → r ≡ reading s (end []) → RunPassed s v r ix) Run s next
     (λ x e a. passed-refused s x ix e a)

@@ -15,6 +15,16 @@ use Rattle.states.specs.States.{placesOf}
 use Rattle.run.specs.Read.{countsOf, readOf}
 use Rattle.run.specs.Said.{statesOf, runIn}
 
+-- how many numbers it has, and where the partners and the clocks begin
+abbrev pub indexSize : ℕ
+indexSize = 40968
+
+abbrev pub partnersPart : ℕ
+partnersPart = 4104
+
+abbrev pub clocksPart : ℕ
+clocksPart = 8200
+
 -- state k of process i is number 512 i + k - 1 of the states
 abbrev pub slot : ℕ → ℕ → ℕ
 slot i k = 512 * i + (k - 1)
@@ -24,10 +34,10 @@ abbrev pub placeAt : ℕ → ℕ → ℕ
 placeAt i k = 8 + slot i k
 
 abbrev pub partnerAt : ℕ → ℕ → ℕ
-partnerAt i k = 4104 + slot i k
+partnerAt i k = partnersPart + slot i k
 
 abbrev pub clockRow : ℕ → ℕ → ℕ
-clockRow i k = 8200 + 8 * slot i k
+clockRow i k = clocksPart + 8 * slot i k
 
 -- a process and a number that have entries
 pub record HasSlot (i k : ℕ) : Type 0 where
@@ -45,7 +55,7 @@ pub record Indexed (s qs ix : List ℕ) : Type 0 where
 pub record Listed (s ix : List ℕ) : Type 0 where
   pub read : readOf s ≡ accepted (statesOf s)
   pub index : Indexed s (statesOf s) ix
-  pub long : length ix ≡ 40968
+  pub long : length ix ≡ indexSize
 
 -- 4104 to 8199: the other end of a send or of a receive; 0 of a send that isn't received
 pub record Partnered (r : Run) (ix : List ℕ) : Type 0 where
@@ -75,7 +85,7 @@ pub record IndexHolds (s ix : List ℕ) : Type 0 where
 
 -- what keeping one state more of process p, at the place at, requires; and what it leaves
 pub record HasRoom (ix : List ℕ) (p at : ℕ) : Type 0 where
-  pub long : length ix ≡ 40968
+  pub long : length ix ≡ indexSize
   pub process : p < 8
   pub room : getD ix p 0 < 512
   pub place : at ≤ 65535

@@ -14,7 +14,7 @@ use Rattle.record.specs.declared.Step.{Step}
 use Rattle.record.specs.declared.Step.the-variants as S
 use Rattle.run.specs.declared.RunReading.{RunReading}
 use Rattle.run.specs.declared.RunReading.the-variants.{Accepted, Refused}
-use Rattle.run.specs.Index.{Indexed, withState, Fresh}
+use Rattle.run.specs.Index.{Indexed, withState, Fresh, partnersPart}
 
 abbrev pub handUp : Step → RunReading
 handUp (S.Refused x) = Refused x
@@ -43,4 +43,4 @@ reading s (accepted qs) = Accepted (headOf s)
 pub record RunPassed (s : List ℕ) (v : Read) (r : RunReading) (ix : List ℕ) : Type 0 where
   pub answer : r ≡ reading s v
   pub index : (qs : List ℕ) → v ≡ accepted qs → Indexed s qs ix
-  pub fresh : (qs : List ℕ) → v ≡ accepted qs → Fresh 4104 ix
+  pub fresh : (qs : List ℕ) → v ≡ accepted qs → Fresh partnersPart ix

@@ -7,11 +7,13 @@ ghost use Prim.Native.Nat.{_+_, _<_};
 ghost use lib.ListN.{length, getD, set, take, drop};
 ghost use Rattle.model.specs.Run.{into, IsState};
 ghost use Rattle.run.specs.Said.{runIn};
-ghost use Rattle.run.specs.Index.{placeAt, partnerAt, clockRow, clockIn, HasSlot, Listed, HasRoom, withState};
+ghost use Rattle.run.specs.Index.{indexSize, placeAt, partnerAt, clockRow, clockIn, HasSlot, Listed, HasRoom, withState};
+
+pub const INDEX_SIZE: usize = 40968;
 
 // How many states process p has.
 pub fn count_of(index: &[u16], p: u16) -> u16
-    requires { ⌜ (length (now index) ≡ 40968) × (p < 8) ⌝ }
+    requires { ⌜ (length (now index) ≡ indexSize) × (p < 8) ⌝ }
     ensures { λ r. ⌜ r ≡ getD (now (index .entry)) p 0 ⌝ }
 {
     let row = p as usize;
@@ -20,7 +22,7 @@ pub fn count_of(index: &[u16], p: u16) -> u16
 
 // The byte place of a state's record.
 pub fn place_of(index: &[u16], p: u16, k: u16) -> usize
-    requires { ⌜ (length (now index) ≡ 40968) × HasSlot p k ⌝ }
+    requires { ⌜ (length (now index) ≡ indexSize) × HasSlot p k ⌝ }
     ensures { λ r. ⌜ r ≡ getD (now (index .entry)) (placeAt p k) 0 ⌝ }
 {
     let entry = 8 + (512 * (p as usize) + (k - 1) as usize);
@@ -29,7 +31,7 @@ pub fn place_of(index: &[u16], p: u16, k: u16) -> usize
 
 // The state at the other end of its send or its receive.
 pub fn partner_of(index: &[u16], p: u16, k: u16) -> u16
-    requires { ⌜ (length (now index) ≡ 40968) × HasSlot p k ⌝ }
+    requires { ⌜ (length (now index) ≡ indexSize) × HasSlot p k ⌝ }
     ensures { λ r. ⌜ r ≡ getD (now (index .entry)) (partnerAt p k) 0 ⌝ }
 {
     let entry = 4104 + (512 * (p as usize) + (k - 1) as usize);
@@ -38,7 +40,7 @@ pub fn partner_of(index: &[u16], p: u16, k: u16) -> u16
 
 // Place i of its clock.
 pub fn clock_at(index: &[u16], p: u16, k: u16, i: u16) -> u16
-    requires { ⌜ (length (now index) ≡ 40968) × HasSlot p k × (i < 8) ⌝ }
+    requires { ⌜ (length (now index) ≡ indexSize) × HasSlot p k × (i < 8) ⌝ }
     ensures { λ r. ⌜ r ≡ clockIn (now (index .entry)) p k i ⌝ }
 {
     let entry = 8200 + 8 * (512 * (p as usize) + (k - 1) as usize) + i as usize;
@@ -47,7 +49,7 @@ pub fn clock_at(index: &[u16], p: u16, k: u16, i: u16) -> u16
 
 // Its clock, a number for each of eight processes.
 pub fn clock_of<'a>(index: &'a [u16], p: u16, k: u16) -> &'a [u16]
-    requires { ⌜ (length (now index) ≡ 40968) × HasSlot p k ⌝ }
+    requires { ⌜ (length (now index) ≡ indexSize) × HasSlot p k ⌝ }
     ensures { λ r. ⌜ now r ≡ take 8 (drop (clockRow p k) (now (index .entry))) ⌝ }
 {
     let entry = 8200 + 8 * (512 * (p as usize) + (k - 1) as usize);
@@ -77,7 +79,7 @@ pub fn keep(index: &mut [u16], p: u16, at: usize)
 
 // The other end of what state k of process p sends or receives.
 pub fn enter_partner(index: &mut [u16], p: u16, k: u16, partner: u16)
-    requires { ⌜ (length (now index) ≡ 40968) × HasSlot p k ⌝ }
+    requires { ⌜ (length (now index) ≡ indexSize) × HasSlot p k ⌝ }
     ensures { λ _. ⌜ now (index .exit) ≡ set (now (index .entry)) (partnerAt p k) partner ⌝ }
 {
     let entry = 4104 + (512 * (p as usize) + (k - 1) as usize);
@@ -86,7 +88,7 @@ pub fn enter_partner(index: &mut [u16], p: u16, k: u16, partner: u16)
 
 // Place i of its clock.
 pub fn enter_clock(index: &mut [u16], p: u16, k: u16, i: u16, number: u16)
-    requires { ⌜ (length (now index) ≡ 40968) × HasSlot p k × (i < 8) ⌝ }
+    requires { ⌜ (length (now index) ≡ indexSize) × HasSlot p k × (i < 8) ⌝ }
     ensures { λ _. ⌜ now (index .exit) ≡ set (now (index .entry)) (clockRow p k + i) number ⌝ }
 {
     let entry = 8200 + 8 * (512 * (p as usize) + (k - 1) as usize) + i as usize;

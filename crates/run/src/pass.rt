@@ -16,6 +16,7 @@ ghost use mathlib.Core.Path.{_≡_};
 ghost use Prim.Native.Nat.{_≤_};
 ghost use mathlib.Core.List.{[]};
 ghost use lib.ListN.{length, replicate};
+ghost use Rattle.run.specs.Index.{indexSize};
 ghost use Rattle.record.specs.Record.{headOf};
 ghost use Rattle.record.specs.declared.File.the-variants.{Run};
 ghost use Rattle.record.specs.Pass.{ended};
@@ -62,7 +63,7 @@ fn end_of(run: &[u8], head: Head, next: usize) -> RunReading
 
 // A state is kept; of any other record nothing is.
 fn note(index: &mut [u16], item: Record, at: usize)
-    requires { ⌜ (length (now index) ≡ 40968) × StateRoomy item (now index) × (at ≤ 65535) ⌝ }
+    requires { ⌜ (length (now index) ≡ indexSize) × StateRoomy item (now index) × (at ≤ 65535) ⌝ }
     ensures { λ _. ⌜ StateNoted item at (now (index .entry)) (now (index .exit)) ⌝ }
 {
     match item {
@@ -75,7 +76,7 @@ fn note(index: &mut [u16], item: Record, at: usize)
 
 // Record by record from the front.
 fn read_records(run: &[u8], head: Head, index: &mut [u16]) -> RunReading
-    requires { ⌜ (length (now run) ≤ 65535) × (head ≡ headOf (now run)) × (now index ≡ replicate 40968 0) ⌝ }
+    requires { ⌜ (length (now run) ≤ 65535) × (head ≡ headOf (now run)) × (now index ≡ replicate indexSize 0) ⌝ }
     ensures { λ r. ⌜ RunPassed (now (run .entry)) (readRecords (runPass (now (run .entry)))) r (now (index .exit)) ⌝ }
 {
     let mut at: usize = 0;
@@ -98,7 +99,7 @@ fn read_records(run: &[u8], head: Head, index: &mut [u16]) -> RunReading
 
 // The whole pass: a run's head with its states in the lent index, which comes as zeros, or the first refusal with its place.
 pub fn read_run(run: &[u8], index: &mut [u16]) -> RunReading
-    requires { ⌜ now index ≡ replicate 40968 0 ⌝ }
+    requires { ⌜ now index ≡ replicate indexSize 0 ⌝ }
     ensures { λ r. ⌜ RunPassed (now (run .entry)) (readOf (now (run .entry))) r (now (index .exit)) ⌝ }
 {
     if 65535 < run.len() {

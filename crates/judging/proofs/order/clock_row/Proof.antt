@@ -3,13 +3,14 @@ use native.Mathlib.Omega.{arith}
 use mathlib.Core.Path.{_≡_, sym, _∙_}
 use Prim.Native.Nat.{_-_, _≤_, _<_}
 use lib.ListN.{length}
+use Rattle.run.specs.Index.{indexSize}
 use Rattle.judging.specs.Order.{ClockRoom, Written}
 use Rattle.judging.proofs.Orders.{written-start, written-next}
 use Rattle.judging.proofs.order.clock_row.Statement.{statement}
 use Rattle.judging.proofs.order.clock_row.Tie as tie
 
 abbrev Inv-loop : tie.InvT-loop
-Inv-loop index₀ n p k ahead i₀ index i = (i ≤ n) × (length index ≡ 40968) × Written i p k (ahead .process) (ahead .state) index₀ index
+Inv-loop index₀ n p k ahead i₀ index i = (i ≤ n) × (length index ≡ indexSize) × Written i p k (ahead .process) (ahead .state) index₀ index
 
 abbrev μ-loop : tie.MeasureT-loop
 μ-loop index₀ n p k ahead i₀ index i = n - i

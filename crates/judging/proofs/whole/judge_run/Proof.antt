@@ -2,6 +2,7 @@ use borrow.Author.Needs.{needs}
 use mathlib.Core.Path.{ap, _∙_}
 use Prim.Native.Nat.{ℕ}
 use lib.ListN.{length, length-replicate}
+use Rattle.run.specs.Index.{indexSize}
 use Rattle.judging.specs.Judged.Judged.{byPass}
 use Rattle.judging.proofs.Verdicts.{refused-by-pass, listed-by-pass}
 use Rattle.judging.proofs.whole.judge_run.Statement.{statement}
@@ -18,7 +19,7 @@ judge-states-requires : tie.Need-judge-states-requires
 judge-states-requires c κs =
     let p = pass c in
     let r = p .before .before .before .before .pre in
-    listed-by-pass _ (p .read-run .ensures) (c .before .before .reading .given .1) (p .read-run .kept .1 .0 ∙ ap length r ∙ length-replicate {A = ℕ} 40968 0)
+    listed-by-pass _ (p .read-run .ensures) (c .before .before .reading .given .1) (p .read-run .kept .1 .0 ∙ ap length r ∙ length-replicate {A = ℕ} indexSize 0)
 
 pub judge-run-spec : {M : Type 1} → statement M
 judge-run-spec =
