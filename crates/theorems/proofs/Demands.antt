@@ -149,7 +149,7 @@ module _ {s c lent lent′ : List ℕ} where
       no-cut (found v h cut f b w) e = never (cc)
 
 -- a cut ahead of the other places
-written : (cut lent : List ℕ) → length cut ≤ length lent → Wrote cut lent (cut ++ drop (length cut) lent)
+pub written : (cut lent : List ℕ) → length cut ≤ length lent → Wrote cut lent (cut ++ drop (length cut) lent)
 written cut lent h = record {
   long = length-append cut (drop (length cut) lent) ∙ omega (arith, length-drop (length cut) lent);
   front = λ i l. List·getD-append cut (drop (length cut) lent) 0 i l;
@@ -175,10 +175,10 @@ head-same : (g h : Head) → g .processes ≡ h .processes → g .channels ≡ h
 head-same g h e d = ap (λ x. record { processes = x; channels = g .channels }) e ∙ ap (λ x. record { processes = h .processes; channels = x }) d
 
 -- "Nothing past the cut counts: two accepted runs with the same stations and channels that agree up to one's first cut have the same first cut."
-pub nothing-past-counts : {s t c lent lent′ lent″ : List ℕ} {a : Answer}
-    → Answered s c lent lent′ A.Found → RunAccepted t → SameUpTo (cutIn s lent′) (runIn s) (runIn t) → Answered t c lent lent″ a
-    → (a ≡ A.Found) × (lent″ ≡ lent′)
-nothing-past-counts {s} {t} {c} {lent} {lent′} w v same u =
+pub nothing-past-counts : {s t c lent lent′ other other′ : List ℕ} {a : Answer}
+    → Answered s c lent lent′ A.Found → RunAccepted t → SameUpTo (cutIn s lent′) (runIn s) (runIn t) → headOf t .processes ≤ length other → Answered t c other other′ a
+    → (a ≡ A.Found) × (cutIn t other′ ≡ cutIn s lent′)
+nothing-past-counts {s} {t} {c} {lent} {lent′} {other} w v same room u =
     let n = named w refl in
     let read = accepted-read (n .both .run) refl in
     let read′ = accepted-read v refl in
@@ -186,18 +186,22 @@ nothing-past-counts {s} {t} {c} {lent} {lent′} w v same u =
     (sym (processes-are s read) ∙ same .processes ∙ processes-are t read′)
     (sym (channels-are s read) ∙ ap length (same .channels) ∙ channels-are t read′) in
     let f : First (runIn t) (clausesFor s c) (cutIn s lent′) = nothing-past (known (n .both .run)) (known v) (linear (n .both)) same (n .first) in
-    answered-one u (first-found
+    let long : length (cutIn s lent′) ≡ headOf t .processes = f .satisfies .isCut .size ∙ size v in
+    let x = written (cutIn s lent′) other (omega (arith, room, long)) in
+    let o = answered-one u (first-found
     (record { run = v; cond = subst (λ h. readOf c h ≡ accepted (placesIn (readOf c h))) e (n .both .cond) })
-    (omega (arith, n .room, ap (λ h. h .processes) e))
+    room
     (subst (λ h. First (runIn t) (clausesIn c h) (cutIn s lent′)) e f)
-    (n .wrote))
+    x) in
+    (o .0, ap (cutIn t) (o .1) ∙ take-written (headOf t .processes) (sym long) room x)
 
 -- "More clauses never give an earlier cut."
-pub more-never-earlier : {s c more lent lent′ lent″ : List ℕ} {a : Answer}
-    → Answered s more lent lent″ A.Found → ConditionAccepted s c → ((k : Clause) → List·Memᴰ k (clausesFor s c) → List·Memᴰ k (clausesFor s more)) → Answered s c lent lent′ a
-    → (a ≡ A.Found) × ((i : ℕ) → at (cutIn s lent′) i ≤ at (cutIn s lent″) i)
-more-never-earlier {s} {c} {more} {lent} {lent′} {lent″} w v all u =
+pub more-never-earlier : {s c more lent lent′ other other′ : List ℕ} {a : Answer}
+    → Answered s more other other′ A.Found → ConditionAccepted s c → ((k : Clause) → List·Memᴰ k (clausesFor s c) → List·Memᴰ k (clausesFor s more))
+    → headOf s .processes ≤ length lent → Answered s c lent lent′ a
+    → (a ≡ A.Found) × ((i : ℕ) → at (cutIn s lent′) i ≤ at (cutIn s other′) i)
+more-never-earlier {s} {c} {more} {lent} {lent′} {other} {other′} w v all room u =
     let n = named w refl in
     let b : Both s c = record { run = n .both .run; cond = v } in
-    let e = found-exactly b (n .room) u .1 (cutIn s lent″, fewer-clauses all (n .first .satisfies)) in
+    let e = found-exactly b room u .1 (cutIn s other′, fewer-clauses all (n .first .satisfies)) in
     (e, no-earlier all (named u e .first) (n .first))

@@ -1,3 +1,4 @@
 pub mod Determined
 pub mod Demands
 pub mod Marked
+pub mod Refusals

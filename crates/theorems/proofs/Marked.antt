@@ -7,7 +7,7 @@ use Prim.Native.Nat.{ℕ, zero, suc, _+_, _*_, _≤_, _<_}
 use native.Mathlib.Omega.{arith}
 use lib.Dec.{T}
 use lib.IntN.{pos}
-use lib.ListN.{length, getD}
+use lib.ListN.{length, getD, drop}
 use Rattle.model.specs.Run.{Run, processes, IsState, into, state, paired}
 use Rattle.model.specs.Known.{Known}
 use Rattle.model.specs.Cut.{AfterCircle, at, IsCut, Consistent, ClockIs, inTransit}
@@ -35,7 +35,9 @@ use Rattle.condition.specs.Read as D
 use Rattle.condition.specs.Items as E
 use Rattle.condition.specs.Judge as J
 use Rattle.condition.specs.Clauses.{comparisonOf, testOf, localAt, testAt, heldAt, clausesOf}
+use Rattle.checker.specs.declared.Answer.{Answer}
 use Rattle.checker.specs.declared.Answer.the-variants as A
+use Rattle.questions.specs.declared.Count.{Count}
 use Rattle.questions.specs.declared.Count.the-variants as C
 use Rattle.questions.specs.declared.Verdict.{Verdict}
 use Rattle.questions.specs.declared.Verdict.the-variants.{Yes, No}
@@ -47,7 +49,8 @@ use Rattle.checker.specs.Answered.{Answered}
 use Rattle.checker.specs.Answered.Answered.{runRefused}
 use Rattle.questions.specs.Questions.{AskedConsistent, AskedMessages}
 use Rattle.judging.proofs.Acceptance.{known-paired}
-use Rattle.theorems.proofs.Demands.{first-found}
+use Rattle.theorems.proofs.Demands.{written, first-found}
+use Rattle.theorems.proofs.Determined.{answered-one, consistent-one, messages-one}
 
 -- the 252 bytes, a record a line; x is place 0 of the clock of process 1's second state, which is 1
 pub desks : ℕ → List ℕ
@@ -306,3 +309,24 @@ marked =
     also at-early
     also (λ c lent. runRefused _ run-refused refl)
     also none-left)
+
+-- and no other answer is allowed
+abbrev pub Only : Case → Type 0
+Only (cut d a) = (b : Verdict) → AskedConsistent (desks 1) d b → b ≡ a
+Only (search c (some d)) = (lent lent′ : List ℕ) (a : Answer) → 2 ≤ length lent → length d ≤ length lent → Answered (desks 1) c lent lent′ a → (a ≡ A.Found) × Wrote d lent lent′
+Only (search c none) = (lent lent′ : List ℕ) (a : Answer) → 2 ≤ length lent → Answered (desks 1) c lent lent′ a → (a ≡ A.None) × (lent′ ≡ lent)
+Only (messages d h n) = (b : Count) → AskedMessages (desks 1) d h b → b ≡ C.Messages n
+Only (refused n place) = (c lent lent′ : List ℕ) (a : Answer) → Answered (desks 2) c lent lent′ a → (a ≡ A.Refused (refusal F.Run n place)) × (lent′ ≡ lent)
+
+only : (k : Case) → Says k → Only k
+only (cut d a) w = λ b v. consistent-one v w
+only (search c (some d)) w = λ lent lent′ a h l v.
+    let x = written d lent l in
+    let o = answered-one v (w lent (d ++ drop (length d) lent) h x) in
+    (o .0, subst (Wrote d lent) (sym (o .1)) x)
+only (search c none) w = λ lent lent′ a h v. answered-one v (w lent h)
+only (messages d h n) w = λ b v. messages-one v w
+only (refused n place) w = λ c lent lent′ a v. answered-one v (w c lent)
+
+pub marked-only : (k : Case) → List·Memᴰ k table → Only k
+marked-only k m = only k (marked k m)
