@@ -9,7 +9,7 @@ use native.Mathlib.Omega.{arith}
 use lib.Dec.{T}
 use lib.ListN.{length, getD, set, replicate, length-set}
 use lib.Seq.{getD-set-same, getD-set-other}
-use Rattle.model.proofs.Numbers.{never}
+use Rattle.model.proofs.Numbers.{never, below-next}
 use Rattle.model.specs.Run.{Run, processes, count, IsState}
 use Rattle.model.specs.Cut.{at, IsCut}
 use Rattle.model.specs.Clause.{Test, Clause, holds, Satisfies}
@@ -69,13 +69,22 @@ other-kind : (t : Bool) → t ≡ not t → ⊥
 other-kind true e = never (cc)
 other-kind false e = never (cc)
 
-pub tried-holds : {r : Run} {cut : List ℕ} {x : Clause} {locals : Bool} {b : HasToMove} → b ≡ Nobody → Tried r cut x locals b → isLocal x ≡ locals → T (holds r cut x)
+tried-holds : {r : Run} {cut : List ℕ} {x : Clause} {locals : Bool} {b : HasToMove} → b ≡ Nobody → Tried r cut x locals b → isLocal x ≡ locals → T (holds r cut x)
 tried-holds e (tested d t) h = tested-holds e t
 tried-holds {locals = locals} e (passed d o) h = absurd (other-kind locals (sym h ∙ d))
 
 tried-tested : {r : Run} {cut : List ℕ} {x : Clause} {locals : Bool} {b : HasToMove} {p : ℕ} → b ≡ Process p → Tried r cut x locals b → Tested r cut x b
 tried-tested e (tested d t) = t
 tried-tested e (passed d o) = never (cc)
+
+-- of the first places, the clauses of a kind hold
+abbrev pub KindHolds : List ℕ → List ℕ → List ℕ → List ℕ → Bool → ℕ → Type 0
+KindHolds s c qs cut locals i = (j : ℕ) → j < i → isLocal (clauseAt c (getD qs j 0)) ≡ locals → T (holds (runIn s) cut (clauseAt c (getD qs j 0)))
+
+pub kind-holds-next : (s c qs cut : List ℕ) {locals : Bool} {i : ℕ} {b : HasToMove} → KindHolds s c qs cut locals i → b ≡ Nobody
+    → Tried (runIn s) cut (clauseAt c (getD qs i 0)) locals b → KindHolds s c qs cut locals (i + 1)
+kind-holds-next s c qs cut {locals} w e t j h =
+    below-next (λ k. isLocal (clauseAt c (getD qs k 0)) ≡ locals → T (holds (runIn s) cut (clauseAt c (getD qs k 0)))) h (tried-holds e t) (λ g. w j g)
 
 module _ {s c ix qs : List ℕ} (g : Given s c ix qs) where
   abbrev r : Run
@@ -94,8 +103,7 @@ module _ {s c ix qs : List ℕ} (g : Given s c ix qs) where
 
   -- ---- the clauses of one kind
 
-  pub all-of-kind : (cut : List ℕ) (locals : Bool) → ((j : ℕ) → j < length qs → isLocal (clauseAt c (getD qs j 0)) ≡ locals → T (holds r cut (clauseAt c (getD qs j 0))))
-      → KindTested r cs cut locals Nobody
+  pub all-of-kind : (cut : List ℕ) (locals : Bool) → KindHolds s c qs cut locals (length qs) → KindTested r cs cut locals Nobody
   unfolding clausesOf
   all-of-kind cut locals w = all (map-each (clauseAt c) (λ x. isLocal x ≡ locals → T (holds r cut x)) qs 0 w)
 

@@ -1,25 +1,15 @@
 -- `first_local` meets its contract. The invariant of its loop: the local clauses so far hold. The measure is the number of clauses left.
 use borrow.Author.Needs.{needs}
 use native.Mathlib.Omega.{arith}
-use mathlib.Core.Path.{_≡_, sym, subst}
-use Prim.Native.Nat.{ℕ, _-_, _≤_, _<_, zero-le}
-use native.Mathlib.Nat.{eq-or-lt-of-le}
-use mathlib.Core.Logic.{⊎-elim}
+use Prim.Native.Nat.{_-_, _≤_, zero-le}
 use mathlib.Core.Bool.{true}
-use lib.Dec.{T}
-use lib.ListN.{length, getD}
-use Rattle.model.proofs.Numbers.{below}
-use Rattle.model.specs.Clause.{holds}
-use Rattle.run.specs.Said.{runIn}
-use Rattle.condition.specs.Known.{clauseAt}
-use Rattle.search.specs.Search.{isLocal}
-use Rattle.search.proofs.Moving.{tried-holds, all-of-kind, one-of-kind}
+use lib.ListN.{length}
+use Rattle.search.proofs.Moving.{KindHolds, kind-holds-next, all-of-kind, one-of-kind}
 use Rattle.search.proofs.clauses.first_local.Statement.{statement}
 use Rattle.search.proofs.clauses.first_local.Tie as tie
 
 abbrev Inv-loop : tie.InvT-loop
-Inv-loop run index cond clauses cut i₀ i =
-    (i ≤ length clauses) × ((j : ℕ) → j < i → isLocal (clauseAt cond (getD clauses j 0)) ≡ true → T (holds (runIn run) cut (clauseAt cond (getD clauses j 0))))
+Inv-loop run index cond clauses cut i₀ i = (i ≤ length clauses) × KindHolds run cond clauses cut true i
 
 abbrev μ-loop : tie.MeasureT-loop
 μ-loop run index cond clauses cut i₀ i = length clauses - i
@@ -59,13 +49,9 @@ loop-again : tie.Need-loop-again Inv-loop μ-loop
 loop-again c =
     let m = c .before .before in
     let t = turn m in
+    let l = t .before .loop in
     let a = entry (t .before) .args in
-    let here = tried-holds (c .enum-told .given .1) (m .local-clause .ensures) in (
-      omega (arith, t .loop-test .taken),
-      λ j h. ⊎-elim
-          (λ e. subst (λ j. isLocal (clauseAt (a .cond .now) (getD (a .clauses .now) j 0)) ≡ true → T (holds (runIn (a .run .now)) (a .cut .now) (clauseAt (a .cond .now) (getD (a .clauses .now) j 0)))) (sym e) here)
-          (λ g. t .before .loop .inv .1 j g) (eq-or-lt-of-le (below h)),
-    )
+    (omega (arith, t .loop-test .taken), kind-holds-next (a .run .now) (a .cond .now) (a .clauses .now) (a .cut .now) (l .inv .1) (c .enum-told .given .1) (m .local-clause .ensures))
 
 returns-2 : tie.Need-returns-2 Inv-loop μ-loop
 returns-2 c =
