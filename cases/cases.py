@@ -1,7 +1,7 @@
 """Cases for a comparison: questions in a binary form, and the answers as text.
 
-A case is, little-endian: the question (1 byte), the lent places or the channel
-asked (2), the number of cut numbers (2), the length of the run (4), the length
+A case is, little-endian: the question (1 byte), the lent places, or the channel
+or the byte place asked (2), the number of cut numbers (2), the length of the run (4), the length
 of the condition (4), then the cut numbers (2 each), the run, the condition.
 """
 
@@ -11,27 +11,33 @@ import struct
 import sys
 from collections import Counter
 from pathlib import Path
-from typing import Iterator, NamedTuple, Optional
+from typing import Iterator, NamedTuple, Optional, Sequence
 
 ROOT = Path(__file__).resolve().parent.parent
 sys.path[:0] = [str(ROOT / "second"), str(ROOT / "cases")]
 
 import reading  # noqa: E402
 from answer import found_lines, refused_line  # noqa: E402
+from beside import beside  # noqa: E402
 from fixed import fixed_questions  # noqa: E402
 from generate import MOST_LENT, seeded_questions  # noqa: E402
 from questions import (  # noqa: E402
     CONSISTENT,
+    EACH,
     MESSAGES,
+    RECORD,
     SATISFIES,
     SEARCH,
     Question,
     consistent,
     messages,
+    messages_on_each,
+    record_at,
+    record_words,
     satisfies,
     search,
     search_refusal,
-    shown_bytes,
+    shown_part,
 )
 from reading import Refusal  # noqa: E402
 
@@ -45,9 +51,12 @@ QUESTION_NAMES = {
     3: "satisfies",
     4: "messages",
     5: "bytes shown",
+    7: "messages on each channel",
+    8: "record",
 }
 ANSWER_KINDS = (
-    "found", "none", "yes", "no", "count", "shown", "nothing shown", "refused"
+    "found", "none", "yes", "no", "count", "counted", "record", "shown", "nothing shown",
+    "refused",
 )
 
 # The refusals that each file can have, those of lent places, cuts and channels
@@ -74,7 +83,7 @@ class Answer(NamedTuple):
 
 
 def encode_case(question: Question) -> bytes:
-    assert question.extra <= MOST_LENT or question.kind == MESSAGES
+    assert question.extra <= MOST_LENT or question.kind in (MESSAGES, RECORD)
     assert len(question.cut) <= MOST_CUT_NUMBERS
     assert max(len(question.run), len(question.condition)) <= LONGEST_PART
     head = struct.pack(
@@ -113,12 +122,22 @@ def answer_of(question: Question) -> Answer:
         return search_answer(question)
     if question.kind in (CONSISTENT, SATISFIES, MESSAGES):
         return smaller_answer(question)
+    if question.kind == EACH:
+        return each_answer(question)
+    if question.kind == RECORD:
+        return record_answer(question)
     return shown_answer(question)
 
 
+def places_text(lent: int, written: Sequence[int]) -> str:
+    places = [FIRST_PLACE + index for index in range(lent)]
+    places[: len(written)] = written
+    return " ".join(["places", *map(str, places)]) + "\n"
+
+
 def search_answer(question: Question) -> Answer:
-    places = [FIRST_PLACE + index for index in range(question.extra)]
     refusal = None
+    written: Sequence[int] = ()
     try:
         found = search(question.run, question.condition, question.extra)
     except Refusal as raised:
@@ -127,10 +146,29 @@ def search_answer(question: Question) -> Answer:
     else:
         lines = found_lines(found)
         if found is not None:
-            places[: len(found.cut)] = found.cut
+            written = found.cut
     kind = lines[0].split()[0]
-    lines.append(" ".join(["places", *map(str, places)]))
-    return Answer("".join(line + "\n" for line in lines), kind, refusal)
+    text = "".join(line + "\n" for line in lines)
+    return Answer(text + places_text(question.extra, written), kind, refusal)
+
+
+def each_answer(question: Question) -> Answer:
+    try:
+        counts = messages_on_each(question.run, question.cut, question.extra)
+    except Refusal as refusal:
+        text = refused_line(refusal) + "\n"
+        return Answer(text + places_text(question.extra, ()), "refused", refusal)
+    return Answer("counted\n" + places_text(question.extra, counts), "counted")
+
+
+def record_answer(question: Question) -> Answer:
+    try:
+        record = record_at(question.run, question.extra)
+    except Refusal as refusal:
+        return Answer(refused_line(refusal) + "\n", "refused", refusal)
+    word, fields = record_words(record)
+    words = ["record", word, *map(str, fields), "next", str(record.next_place)]
+    return Answer(" ".join(words) + "\n", "record")
 
 
 def smaller_answer(question: Question) -> Answer:
@@ -150,9 +188,10 @@ def smaller_answer(question: Question) -> Answer:
 
 def shown_answer(question: Question) -> Answer:
     refusal = search_refusal(question.run, question.condition, question.extra)
-    shown = shown_bytes(question.run, question.condition, refusal)
-    kind = "shown" if shown else "nothing shown"
-    return Answer(f"shown {shown.hex() or '-'}\n", kind, refusal)
+    part = shown_part(question.run, question.condition, refusal)
+    kind = "shown" if part.data else "nothing shown"
+    where = f"{part.file} {part.place} {len(part.data)}"
+    return Answer(f"shown {where} {part.data.hex() or '-'}\n", kind, refusal)
 
 
 # The table
@@ -223,7 +262,7 @@ class Table:
         parts = [
             f"{answer} {self.clauses[kind, number, answer]}"
             for answer in ANSWER_KINDS
-            if answer != "count"
+            if answer not in ("count", "counted", "record")
         ]
         return f"{name} {number}: " + ", ".join(parts)
 
@@ -252,7 +291,9 @@ def clause_kinds(condition: bytes) -> list[tuple[int, int]]:
 
 def all_questions(seed: int, count: int) -> Iterator[Question]:
     yield from fixed_questions()
-    yield from seeded_questions(seed, count)
+    for question in seeded_questions(seed, count):
+        yield question
+        yield from beside(question)
 
 
 def write_cases(seed: int, count: int, input_path: str, expected_path: str) -> Table:

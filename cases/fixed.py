@@ -6,6 +6,7 @@ import itertools
 from typing import Iterator
 
 import encode
+from beside import listings, records
 from chance import Chance
 from damage import STATE_CLOCK_AT, get, of_kind, put
 from execution import EXTREMES, Step, file_order, run_of, run_records
@@ -90,6 +91,8 @@ def grouped_questions() -> Iterator[Question]:
         comparisons_at_extremes,
         tests_at_extremes,
         counts_at_every_cut,
+        listings,
+        records,
     ):
         yield from group()
 

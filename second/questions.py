@@ -1,4 +1,4 @@
-"""The five questions over raw bytes; a refusal is raised, an answer returned."""
+"""The questions over raw bytes; a refusal is raised, an answer returned."""
 
 from __future__ import annotations
 
@@ -15,22 +15,39 @@ from model import (
     stamps_in_transit,
 )
 from reading import (
+    CHANNEL_LENGTH,
+    CONDITION,
     EARLY,
+    FORMAT,
+    FRAME_LENGTH,
+    KIND,
+    KIND_CHANNEL,
+    KIND_END,
+    KIND_RUN_HEAD,
+    KIND_STATE,
+    LENGTH,
     NO_ROOM,
     RUN,
+    RUN_HEAD_LENGTH,
     TOO_LONG,
     WRONG_CHANNEL,
     WRONG_CUT,
+    WRONG_FORMAT,
+    Record,
     Refusal,
     judge_condition,
     judge_run,
+    read_record,
+    state_length,
 )
 
+# 6 is the search in two calls, of which this program knows nothing.
 SEARCH, CONSISTENT, SATISFIES, MESSAGES, SHOWN = 1, 2, 3, 4, 5
+EACH, RECORD = 7, 8
 
 
 class Question(NamedTuple):
-    """`extra` is the number of lent places, or the channel asked about."""
+    """`extra` is the number of lent places, the channel or the byte place asked about."""
 
     kind: int
     extra: int
@@ -85,6 +102,16 @@ def messages(run_bytes: bytes, cut: Sequence[int], channel: int) -> int:
     return len(stamps_in_transit(run, cut, channel))
 
 
+def messages_on_each(
+    run_bytes: bytes, cut: Sequence[int], lent: int
+) -> tuple[int, ...]:
+    run = judge_run(run_bytes)
+    judge_cut(run, cut)
+    if lent < len(run.channels):
+        raise Refusal(RUN, NO_ROOM, 0)
+    return message_counts(run, tuple(cut))
+
+
 def judge_cut(run: Run, cut: Sequence[int]) -> None:
     if len(cut) != run.process_count:
         raise Refusal(RUN, WRONG_CUT, 0)
@@ -93,10 +120,15 @@ def judge_cut(run: Run, cut: Sequence[int]) -> None:
             raise Refusal(RUN, WRONG_CUT, 0)
 
 
-def shown(run_bytes: bytes, condition_bytes: bytes, lent: int) -> bytes:
-    """The bytes shown for the answer of the search."""
-    refusal = search_refusal(run_bytes, condition_bytes, lent)
-    return shown_bytes(run_bytes, condition_bytes, refusal)
+# The bytes shown
+
+
+class Part(NamedTuple):
+    """Bytes of a file from a place on."""
+
+    file: str
+    place: int
+    data: bytes
 
 
 def search_refusal(
@@ -109,13 +141,47 @@ def search_refusal(
     return None
 
 
-def shown_bytes(
+def shown_part(
     run_bytes: bytes, condition_bytes: bytes, refusal: Optional[Refusal]
-) -> bytes:
+) -> Part:
+    """What is shown for a refusal, or for an answer that is none."""
     if refusal is None or refusal.number == TOO_LONG or refusal.number >= NO_ROOM:
-        return b""
-    data = run_bytes if refusal.file == RUN else condition_bytes
-    if refusal.after or len(data) - refusal.place < 2:
-        return data[refusal.place :]
-    (length,) = struct.unpack_from("<H", data, refusal.place)
-    return data[refusal.place : refusal.place + length]
+        return Part(RUN, 0, b"")
+    data = {RUN: run_bytes, CONDITION: condition_bytes}[refusal.file]
+    end = len(data)
+    if not refusal.after and end - refusal.place >= 2:
+        (length,) = struct.unpack_from("<H", data, refusal.place)
+        end = refusal.place + length
+    return Part(refusal.file, refusal.place, data[refusal.place : end])
+
+
+# A record by itself, beside the numbers that the head has and nothing else
+
+
+def record_at(run_bytes: bytes, place: int) -> Record:
+    record = read_record(run_bytes, place, RUN)
+    process_count, channel_count = 0, 0
+    if len(run_bytes) >= RUN_HEAD_LENGTH:
+        process_count, channel_count = struct.unpack_from("<HH", run_bytes, 6)
+    lengths = {KIND_STATE: state_length(process_count), KIND_END: FRAME_LENGTH}
+    if place == 0:
+        lengths = {KIND_RUN_HEAD: RUN_HEAD_LENGTH}
+    elif place < RUN_HEAD_LENGTH + channel_count * CHANNEL_LENGTH:
+        lengths = {KIND_CHANNEL: CHANNEL_LENGTH}
+    record.refuse_if(record.kind not in lengths, KIND)
+    record.refuse_if(record.length != lengths[record.kind], LENGTH)
+    if record.kind == KIND_RUN_HEAD:
+        (file_format,) = struct.unpack_from("<H", record.body)
+        record.refuse_if(file_format != FORMAT, WRONG_FORMAT)
+    return record
+
+
+def record_words(record: Record) -> tuple[str, tuple[int, ...]]:
+    """The name of the record's kind, and the fields that stand ahead of values and clock."""
+    if record.kind == KIND_RUN_HEAD:
+        return "head", struct.unpack_from("<HH", record.body, 2)
+    if record.kind == KIND_CHANNEL:
+        return "channel", struct.unpack("<HHH", record.body)
+    if record.kind == KIND_STATE:
+        return "state", struct.unpack_from("<HHHII", record.body)
+    return "end", ()

@@ -56,7 +56,20 @@ from model import (  # noqa: E402
     stamps_in_transit,
 )
 from named import named_cases  # noqa: E402
-from questions import Found, Question, consistent, messages, satisfies, search, shown  # noqa: E402
+from questions import (  # noqa: E402
+    Found,
+    Part,
+    Question,
+    consistent,
+    messages,
+    messages_on_each,
+    record_at,
+    record_words,
+    satisfies,
+    search,
+    search_refusal,
+    shown_part,
+)
 from reading import Refusal, judge_run  # noqa: E402
 from shapes import SHAPES  # noqa: E402
 
@@ -206,23 +219,60 @@ def order_of_refusals() -> Iterator[Outcome]:
     yield "inconsistent without clauses", satisfies(run, NO_CLAUSE, (1, 2)), False
 
 
+def shown(run: bytes, condition: bytes, lent: int) -> Part:
+    return shown_part(run, condition, search_refusal(run, condition, lent))
+
+
 def bytes_shown() -> Iterator[Outcome]:
     run, record = two_desks(), two_desks_records()[6]
     wrong = bytearray(record)
     put(wrong, 34, 2)
     after = encode.end() + b"\x01"
+    front = Part("run", 0, b"")
     for name, got, expected in [
-        ("shown for a clock", shown(marked_wrong_clock(), b"", 0), bytes(wrong)),
-        ("shown after the end", shown(run + after, b"", 0), after),
-        ("shown of half a record", shown(run[:180], b"", 0), run[172:180]),
-        ("shown of a single byte", shown(run[:173], b"", 0), run[172:173]),
-        ("shown of length 0", shown(changed_run(6, 0, 0), b"", 0), b""),
-        ("shown of length 3", shown(changed_run(6, 0, 3), b"", 0), b"\x03\x00\x03"),
-        ("shown of a condition", shown(run, small_condition()[:8], 0), b"\x0e\x00"),
-        ("shown for no room", shown(run, NO_CLAUSE, 0), b""),
-        ("shown for found", shown(run, NO_CLAUSE, 2), b""),
+        ("shown for a clock", shown(marked_wrong_clock(), b"", 0), Part("run", 172, bytes(wrong))),
+        ("shown after the end", shown(run + after, b"", 0), Part("run", 252, after)),
+        ("shown of half a record", shown(run[:180], b"", 0), Part("run", 172, run[172:180])),
+        ("shown of a single byte", shown(run[:173], b"", 0), Part("run", 172, run[172:173])),
+        ("shown where no byte is left", shown(run[:172], b"", 0), Part("run", 172, b"")),
+        ("shown of length 0", shown(changed_run(6, 0, 0), b"", 0), Part("run", 172, b"")),
+        ("shown of length 3", shown(changed_run(6, 0, 3), b"", 0), Part("run", 172, b"\x03\x00\x03")),
+        ("shown of a condition", shown(run, small_condition()[:8], 0), Part("cond", 6, b"\x0e\x00")),
+        ("shown of an empty condition", shown(run, b"", 0), Part("cond", 0, b"")),
+        ("shown for no room", shown(run, NO_CLAUSE, 0), front),
+        ("shown for found", shown(run, NO_CLAUSE, 2), front),
     ]:
         yield name, got, expected
+
+
+def listings() -> Iterator[Outcome]:
+    run = two_desks()
+    yield "channels while the message is on its way", messages_on_each(run, (2, 1), 1), (1,)
+    yield "channels after it came", messages_on_each(run, (2, 2), 3), (0,)
+    yield "channels with no place lent", told(lambda: messages_on_each(run, (2, 1), 0)), ("run", 15, 0, False)
+    yield "channels of no cut", told(lambda: messages_on_each(run, (4, 1), 0)), ("run", 16, 0, False)
+
+
+def records_alone() -> Iterator[Outcome]:
+    run = two_desks()
+    for place, expected in (
+        (0, ("head", (2, 1))),
+        (10, ("channel", (0, 0, 1))),
+        (20, ("state", (0, 0, 0, 0, 0))),
+        (58, ("state", (0, 2, 0, 7, 5))),
+        (172, ("state", (1, 3, 0, 7, 0))),
+        (248, ("end", ())),
+    ):
+        yield f"record at {place}", record_words(record_at(run, place)), expected
+    for place, number in ((1, 2), (2, 3), (252, 2), (300, 2)):
+        yield f"no record at {place}", told(lambda: record_at(run, place)), ("run", number, place, False)
+    for name, changed, number in (
+        ("a channel's place", run[:10] + run[20:], 4),
+        ("a state of another length", run[:6] + b"\x03\x00" + run[8:], 3),
+        ("another format", run[:4] + b"\x02\x00" + run[6:], 6),
+    ):
+        place = {4: 10, 3: 20, 6: 0}[number]
+        yield name, told(lambda: record_at(changed, place)), ("run", number, place, False)
 
 
 # The cases that have a name
@@ -257,7 +307,7 @@ def everything_reached() -> Iterator[Outcome]:
     for question in fixed_questions():
         table.count(question, answer_of(question))
     yield "not reached by fixed cases", list(table.not_reached()), []
-    yield "an empty table reaches nothing", len(list(Table().not_reached())), 72
+    yield "an empty table reaches nothing", len(list(Table().not_reached())), 76
 
 
 # Definitions against each other, on drawn runs
@@ -423,7 +473,7 @@ def case_format() -> Iterator[Outcome]:
     yield "another seed", list(seeded_questions(8, 60)) != drawn, True
     asked = list(fixed_questions())
     kinds = sorted({question.kind for question in asked})
-    yield "fixed questions of each kind", kinds, [1, 2, 3, 4, 5]
+    yield "fixed questions of each kind", kinds, [1, 2, 3, 4, 5, 7, 8]
     first = answer_of(asked[9])
     expected = "found\nstate 0 1\nstate 1 1\nchannel 0 0\nplaces 1 1\n"
     yield "text of a search", first.text, expected
@@ -442,6 +492,8 @@ GROUPS: list[Callable[[], Iterator[Outcome]]] = [
     condition_refusals,
     order_of_refusals,
     bytes_shown,
+    listings,
+    records_alone,
     named_answers,
     named_shapes,
     everything_reached,

@@ -34,7 +34,7 @@ fn pair_line(word: &[u8], a: usize, b: usize) {
     text(b"\n");
 }
 
-fn refused(refusal: Refusal) {
+pub fn refused(refusal: Refusal) {
     let file = refusal.file;
     match file {
         File::Run => pair_line(b"refused run", refusal.number as usize, refusal.place),

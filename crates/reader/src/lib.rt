@@ -2,6 +2,7 @@
 // apart. `shown` gives the bytes of a refused record.
 pub mod shown;
 
+use record::File;
 use record::Step;
 use record::reading::step;
 ghost use mathlib.Core.Path.{_≡_};
@@ -10,6 +11,13 @@ ghost use Rattle.record.specs.Record.{stepAt};
 pub struct Reader<'a> {
     pub run: &'a [u8],
     pub place: usize,
+}
+
+// A part of one of the two files: from a place on, so many bytes.
+pub struct Part {
+    pub file: File,
+    pub place: usize,
+    pub count: usize,
 }
 
 // A reader at a place; the front is place 0.

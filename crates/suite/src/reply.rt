@@ -1,6 +1,13 @@
 // The answer to one question, as text.
 use libc::STDOUT_FILENO;
 use questions::Counts;
+use reader::Part;
+use record::ChannelFields;
+use record::File;
+use record::Head;
+use record::Record;
+use record::StateFields;
+use record::Step;
 use record::reading::head_of;
 ghost use Prim.Native.Nat.{_≤_};
 ghost use lib.ListN.{length};
@@ -28,8 +35,19 @@ fn hex(bytes: &[u8]) {
     }
 }
 
-fn shown_line(bytes: &[u8]) {
-    answers::text(b"shown ");
+// Where the part stands and how long it is, and then its bytes: an empty part has a file and a place too.
+fn part_line(part: Part) {
+    let file = part.file;
+    match file {
+        File::Run => answers::text(b"shown run"),
+        File::Condition => answers::text(b"shown cond"),
+    }
+    answers::spaced(part.place);
+    answers::spaced(part.count);
+    answers::text(b" ");
+}
+
+fn bytes_line(bytes: &[u8]) {
     if bytes.len() == 0 {
         answers::text(b"-");
     }
@@ -89,7 +107,71 @@ fn search_apart(run: &[u8], cond: &[u8], places: &mut [u16])
 
 fn shown<'a>(run: &'a [u8], cond: &'a [u8], places: &mut [u16]) {
     let answer = checker::finding::first_cut(run, cond, places);
-    shown_line(checker::showing::shown(run, cond, answer));
+    part_line(checker::showing::shown_part(run, cond, answer));
+    bytes_line(checker::showing::shown(run, cond, answer));
+}
+
+// How many messages are on each channel at a given cut, into lent places that may be too few.
+fn each(run: &[u8], cut: &[u16], places: &mut [u16])
+    requires { ⌜ length (now places) ≤ 24 ⌝ }
+{
+    lend(places);
+    let counts = questions::listing::messages_on_each(run, cut, places);
+    match counts {
+        Counts::Counted => answers::text(b"counted\n"),
+        Counts::Refused(refusal) => answers::refused(refusal),
+    }
+    places_line(places);
+}
+
+fn head_line(head: Head) {
+    answers::text(b"record head");
+    spaced(head.processes);
+    spaced(head.channels);
+}
+
+fn channel_line(line: ChannelFields) {
+    answers::text(b"record channel");
+    spaced(line.number);
+    spaced(line.from);
+    spaced(line.to);
+}
+
+fn state_line(f: StateFields) {
+    answers::text(b"record state");
+    spaced(f.process);
+    spaced(f.event);
+    spaced(f.channel);
+    answers::spaced(f.message as usize);
+    answers::spaced(f.stamp as usize);
+}
+
+fn record_line(record: Record, next: usize) {
+    match record {
+        Record::Head(head) => head_line(head),
+        Record::Channel(line) => channel_line(line),
+        Record::State(f) => state_line(f),
+        Record::End => answers::text(b"record end"),
+    }
+    answers::text(b" next");
+    answers::spaced(next);
+    answers::text(b"\n");
+}
+
+fn step_at(run: &[u8], place: u16) -> Step {
+    match place {
+        0 => reader::first(run),
+        _ => reader::read_at(run, place as usize),
+    }
+}
+
+// What stands in a run at a place.
+fn record(run: &[u8], place: u16) {
+    let step = step_at(run, place);
+    match step {
+        Step::Got(record, next) => record_line(record, next),
+        Step::Refused(refusal) => answers::refused(refusal),
+    }
 }
 
 // A case lends at most 24 places.
@@ -99,15 +181,30 @@ fn lent(extra: u16) -> usize
     if extra < 24 { extra as usize } else { 24 }
 }
 
-pub fn answer<'a>(question: u8, extra: u16, run: &'a [u8], cond: &'a [u8], cut: &[u16]) {
-    let mut room = [0u16; 24];
-    let n = lent(extra);
+fn asked<'a>(
+    question: u8,
+    extra: u16,
+    run: &'a [u8],
+    cond: &'a [u8],
+    cut: &[u16],
+    places: &mut [u16],
+)
+    requires { ⌜ length (now places) ≤ 24 ⌝ }
+{
     match question {
-        1 => search(run, cond, &mut room[..n]),
+        1 => search(run, cond, places),
         2 => answers::verdict(questions::consistency::is_consistent(run, cut)),
         3 => answers::verdict(questions::satisfaction::satisfies(run, cond, cut)),
         4 => answers::count(questions::messages::messages_on(run, cut, extra)),
-        5 => shown(run, cond, &mut room[..n]),
-        _ => search_apart(run, cond, &mut room[..n]),
+        5 => shown(run, cond, places),
+        6 => search_apart(run, cond, places),
+        7 => each(run, cut, places),
+        _ => record(run, extra),
     }
+}
+
+pub fn answer<'a>(question: u8, extra: u16, run: &'a [u8], cond: &'a [u8], cut: &[u16]) {
+    let mut room = [0u16; 24];
+    let n = lent(extra);
+    asked(question, extra, run, cond, cut, &mut room[..n]);
 }
