@@ -28,6 +28,9 @@ NAMED_PLACE = re.compile(r"^[\w·′-]+ \w+ = \w+(?: \.before)+$")
 # Two numbers that differ contradict each other: one lemma says so for all.
 CONTRADICTION = "_≡_ {A = ℕ} 0 1 = cc"
 
+IMPORT = re.compile(r"(?:ghost )?use (\S+?)(?:\.\{(.*)\})?(?: as (\S+?))?;?$")
+COMMENT = re.compile(r"(?m)(?:--|//).*$")
+
 BRACKETS = ("([{", ")]}")
 TYPE_BRACKETS = ("([{<", ")]}>")
 
@@ -67,6 +70,10 @@ def place_of(path: Path, crate: Path) -> str:
 
 def sources(crate: Path) -> list[Path]:
     return sorted(crate.glob("src/**/*.rt"))
+
+
+def definitions(crate: Path) -> list[Path]:
+    return sorted(crate.glob("specs/**/*.antt"))
 
 
 def proofs(crate: Path) -> list[Path]:
@@ -165,6 +172,29 @@ def untitled_proofs(crate: Path) -> Iterator[Offence]:
             yield Offence(place_of(path, crate), f"{count} lines")
 
 
+def unused_imports(crate: Path) -> Iterator[Offence]:
+    for path in (*sources(crate), *definitions(crate), *proofs(crate)):
+        lines = text_of(path).splitlines()
+        imports = [found for found in map(IMPORT.match, lines) if found]
+        rest = COMMENT.sub("", "\n".join(line for line in lines if not IMPORT.match(line)))
+        unused = [name for found in imports for name in imported(found) if not is_used(name, rest)]
+        if unused:
+            yield Offence(place_of(path, crate), ", ".join(unused))
+
+
+def imported(found: re.Match[str]) -> list[str]:
+    if found[2]:
+        return [name.partition(" as ")[2] or name for name in found[2].split(", ")]
+    return [found[3] or re.split(r"::|\.", found[1])[-1]]
+
+
+def is_used(name: str, text: str) -> bool:
+    """An operator's arguments stand between its parts, so only its parts are looked for."""
+    if "_" in (name[0], name[-1]):
+        return all(part in text for part in name.split("_") if part)
+    return re.search(rf"(?<![\w′·-]){re.escape(name)}(?![\w′-])", text) is not None
+
+
 def contradictions(root: Path) -> Iterator[Offence]:
     counts = {
         place_of(path, crate): text_of(path).count(CONTRADICTION)
@@ -187,6 +217,7 @@ OF_A_CRATE = {
     f"at most {MOST_PARTS} parts in a requires": many_parts,
     f"at most {MOST_STEPS_BACK} times .before in a row": steps_back,
     f"a proof over {MOST_UNTITLED_LINES} lines opens with a comment": untitled_proofs,
+    "no import that nothing uses": unused_imports,
 }
 OF_ALL_CRATES = {
     "two numbers that differ contradict each other, said once": contradictions,

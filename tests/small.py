@@ -79,6 +79,8 @@ pub fn large<'a>(a: u16, b: Pair<u8, u16>, c: [u8; 2], d: (u8, u8), e: u16, f: u
                ("small/proofs/large/Proof.antt: 33 lines",)),
         Change("a thirty-first line with no comment", SHORT_PROOF, PROVED, PROVED * 2,
                ("small/proofs/short/Proof.antt: 31 lines",)),
+        Change("an import that nothing uses", SHORT_PROOF, PROVED, "use lib.ListN.{length, _++_}\n",
+               ("small/proofs/short/Proof.antt: length, _++_",)),
         Change("a contradiction said twice", SHORT_PROOF, PROVED, CONTRADICTED,
                ("small/proofs/large/Proof.antt: 1 of them", "small/proofs/short/Proof.antt: 1 of them")),
     ),
@@ -145,5 +147,64 @@ Inner words: `{TABLES}`
                ("to be believed: limit", "inner: few")),
         Change("a public contract with an inner word", CALLS, "⌜ Answered", "⌜ Roomy n × Answered",
                (f"{TABLES} isn't listed", f"{TABLES} is listed, and isn't one")),
+    ),
+)
+
+
+# A library whose document lists the contracts that aren't whole
+
+LIBRARY, LISTING, LAWS = "crates/small/src/lib.rt", "docs/CONTRACTS.md", "crates/small/proofs/Once.antt"
+
+EXCEPTIONS_LISTED = Small(
+    "a library whose document lists the contracts that aren't whole",
+    {
+        LIBRARY: """\
+pub fn whole(n: u16) -> u16
+    ensures { λ r. ⌜ r ≡ n ⌝ }
+{
+    n
+}
+
+pub fn lent(row: &mut [u16])
+    ensures { λ _. ⌜ Wrote (now (row .exit)) ⌝ }
+{
+}
+
+pub fn asks(n: u16) -> u16
+    requires { ⌜ n < 8 ⌝ }
+    ensures { λ r. ⌜ r ≡ n ⌝ }
+{
+    n
+}
+
+pub fn says(n: u16) {
+}
+""",
+        LAWS: "pub lent-one : ℕ\n",
+        LISTING: """\
+# Contracts
+
+| `small::lent` | what was written | `lent-one` |
+
+## Exceptions
+
+| `small::asks`, `says` | what is open | why |
+""",
+    },
+    (
+        Change("a contract that asks something and isn't listed", LISTING, "`small::asks`, `says`", "`small::says`",
+               ("its contract isn't whole, and it isn't listed",)),
+        Change("no contract, and not listed", LISTING, ", `says`", "",
+               ("its contract isn't whole, and it isn't listed",)),
+        Change("a lent row with no theorem", LAWS, "lent-one", "lent-two",
+               ("its contract isn't whole, and it isn't listed",)),
+        Change("an exception that asks nothing", LIBRARY, "    requires { ⌜ n < 8 ⌝ }\n", "",
+               ("it is listed, and its contract is whole",)),
+        Change("less than an equation", LIBRARY, "⌜ r ≡ n ⌝", "⌜ r ≤ n ⌝",
+               ("its contract isn't whole, and it isn't listed",)),
+        Change("an exception that is no function", LISTING, "`says`", "`says`, `sings`",
+               ("small::sings is no public call",)),
+        Change("an exception without a reason", LISTING, "why", "",
+               ("small::asks has none", "small::says has none")),
     ),
 )

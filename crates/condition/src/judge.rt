@@ -16,14 +16,14 @@ ghost use mathlib.Core.Path.{_≡_};
 ghost use Rattle.condition.specs.Judge.{mayMove, headNo, localNo, testNo, clauseNo, judgeNo};
 
 // 5: the number of clauses.
-pub fn head_no(clauses: u16) -> u16
+fn head_no(clauses: u16) -> u16
     ensures { λ r. ⌜ r ≡ headNo clauses ⌝ }
 {
     or_if(0, 32 < clauses, LIMIT)
 }
 
 // 7, 8: the process and the value have to exist, the comparison is known.
-pub fn local_no(head: Head, l: Local) -> u16
+fn local_no(head: Head, l: Local) -> u16
     ensures { λ r. ⌜ r ≡ localNo head l ⌝ }
 {
     let number = or_if(0, head.processes <= l.process, NAME);
@@ -44,7 +44,7 @@ fn may_move(mover: Mover) -> bool
 }
 
 // 7, 8, 14: the channel has to exist, the test is known and linear.
-pub fn test_no(head: Head, t: Test) -> u16
+fn test_no(head: Head, t: Test) -> u16
     ensures { λ r. ⌜ r ≡ testNo head t ⌝ }
 {
     let test = t.test;
@@ -55,7 +55,7 @@ pub fn test_no(head: Head, t: Test) -> u16
     or_if(number, !linear, NOT_LINEAR)
 }
 
-pub fn clause_no(head: Head, clause: Clause) -> u16
+fn clause_no(head: Head, clause: Clause) -> u16
     ensures { λ r. ⌜ r ≡ clauseNo head clause ⌝ }
 {
     match clause {
@@ -65,7 +65,7 @@ pub fn clause_no(head: Head, clause: Clause) -> u16
 }
 
 // What the step accepted, judged beside the run's head.
-pub fn judge_no(head: Head, item: Item) -> u16
+pub(crate) fn judge_no(head: Head, item: Item) -> u16
     ensures { λ r. ⌜ r ≡ judgeNo head item ⌝ }
 {
     match item {

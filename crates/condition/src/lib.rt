@@ -1,7 +1,7 @@
 // The judging of a condition beside an accepted run's head. `reading` has the reading step, `judge` the tests of one record, `movers` who has
 // to move, `pass` goes over all records, `clauses` says what stands in a clause record.
 pub mod clauses;
-pub mod judge;
+mod judge;
 pub mod movers;
 pub mod pass;
 pub mod reading;

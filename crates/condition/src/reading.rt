@@ -14,7 +14,7 @@ ghost use Rattle.condition.specs.Items.{due, lengthOf, stepNo, itemAt, s
 ghost use Rattle.condition.specs.Inner.{Taken};
 
 // Whether a kind may stand at a place: the head, then the clauses that are owed, then the end.
-pub fn is_due(at: usize, owed: u16, kind: u16) -> bool
+fn is_due(at: usize, owed: u16, kind: u16) -> bool
     ensures { λ r. ⌜ r ≡ due at owed kind ⌝ }
 {
     if at == 0 {
@@ -40,7 +40,7 @@ fn length_of(kind: u16) -> usize
 }
 
 // 2, 3, 2, 4, 3: the frame, the kind, the kind's length.
-pub fn step_no(cond: &[u8], at: usize, owed: u16) -> u16
+fn step_no(cond: &[u8], at: usize, owed: u16) -> u16
     ensures { λ r. ⌜ r ≡ stepNo (now (cond .entry)) at owed ⌝ }
 {
     let frame = frame_no(cond, at);

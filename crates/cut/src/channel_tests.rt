@@ -50,7 +50,7 @@ fn one_decides(waiting: Waiting, test: u16, x: i32) -> bool
 }
 
 // Whether some message on the channel has a stamp that decides the test.
-pub fn some_stamp(run: &[u8], index: &[u16], cut: &[u16], channel: u16, test: u16, x: i32) -> bool
+fn some_stamp(run: &[u8], index: &[u16], cut: &[u16], channel: u16, test: u16, x: i32) -> bool
     requires { ⌜ Asked (now run) (now index) (now cut) channel ⌝ }
     ensures { λ r. ⌜ r ≡ someOf (decides test x) (inTransit (runIn (now (run .entry))) (now (cut .entry)) channel) ⌝ }
 {

@@ -8,7 +8,7 @@ ghost use Rattle.run.specs.Index.{clockIn, indexSize};
 ghost use Rattle.cut.specs.Clocks.{InTable, behindOf, tooLow, ConsistentIs};
 
 // The first process that is behind j's clock.
-pub fn behind(index: &[u16], cut: &[u16], j: usize) -> HasToMove
+fn behind(index: &[u16], cut: &[u16], j: usize) -> HasToMove
     requires { ⌜ (length (now index) ≡ indexSize) × InTable (now cut) × (j < length (now cut)) ⌝ }
     ensures { λ r. ⌜ r ≡ behindOf (clockIn (now (index .entry))) (now (cut .entry)) j ⌝ }
 {

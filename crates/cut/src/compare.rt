@@ -4,7 +4,7 @@ ghost use Rattle.model.specs.Clause as M;
 ghost use Rattle.condition.specs.Clauses.{comparisonOf};
 
 // Equal is at most both ways, as the definition has it.
-pub fn compares(comparison: u16, value: i32, x: i32) -> bool
+pub(crate) fn compares(comparison: u16, value: i32, x: i32) -> bool
     ensures { λ r. ⌜ r ≡ M.compares (comparisonOf comparison) value x ⌝ }
 {
     let same = (value <= x) & (x <= value);

@@ -2,7 +2,7 @@
 pub mod channel_tests;
 pub mod choice;
 pub mod clocks;
-pub mod compare;
+mod compare;
 pub mod early;
 pub mod listing;
 pub mod local;

@@ -36,7 +36,7 @@ fn sent_on(channel: u16, event: Event) -> Waiting
 }
 
 // How far the ends of a channel are at a cut.
-pub fn span_of(run: &[u8], cut: &[u16], channel: u16) -> Span
+pub(crate) fn span_of(run: &[u8], cut: &[u16], channel: u16) -> Span
     requires { ⌜ (readOf (now run) ≡ accepted (statesOf (now run))) × IsCut (runIn (now run)) (now cut) × (channel < headOf (now run) .channels) ⌝ }
     ensures { λ r. ⌜ r ≡ spanOf (runIn (now (run .entry))) (now (cut .entry)) channel ⌝ }
 {
@@ -55,7 +55,7 @@ pub fn span_of(run: &[u8], cut: &[u16], channel: u16) -> Span
 
 // What state k of the channel's sender has in transit. A send whose partner is 0 is received nowhere, and one whose partner is past the receiver's
 // state only later.
-pub fn waits(run: &[u8], index: &[u16], span: Span, k: u16) -> Waiting
+pub(crate) fn waits(run: &[u8], index: &[u16], span: Span, k: u16) -> Waiting
     requires { ⌜ IndexHolds (now run) (now index) × OfChannel (runIn (now run)) span × IsState (runIn (now run)) (span .from) k ⌝ }
     ensures { λ r. ⌜ r ≡ asHeld (waiting (runIn (now (run .entry))) (span .channel) (span .received) k) ⌝ }
 {

@@ -33,7 +33,7 @@ fn with_process(run: &[u8], index: &[u16], bad: &[u16], p: u16, so_far: FirstFau
 }
 
 // Of the processes 0 to n - 1, each with its first faulty state or 0.
-pub fn earliest(run: &[u8], index: &[u16], bad: &[u16], n: u16) -> FirstFault
+pub(crate) fn earliest(run: &[u8], index: &[u16], bad: &[u16], n: u16) -> FirstFault
     requires { ⌜ ((p : ℕ) → p < n → Candidate (now run) (now index) (now bad) p) ⌝ }
     ensures { λ r. ⌜ Earliest (now (run .entry)) n (now (bad .entry)) r ⌝ }
 {

@@ -1,8 +1,8 @@
 // A whole run judged. `pairing`, `order` and `faults` find the first record with each fault that only all records
 // together show, `whole` judges the run: the pass, then these.
-pub mod faults;
-pub mod order;
-pub mod pairing;
+mod faults;
+mod order;
+mod pairing;
 pub mod whole;
 
 // The state ahead of the send whose message a state receives; state 0 where it receives nothing.

@@ -133,7 +133,7 @@ fn sweep(run: &[u8], index: &mut [u16], done: &mut [u16], n: u16) -> bool
 }
 
 // How many states of each process are clear of circles, into `done`, and their clocks.
-pub fn order_all(run: &[u8], index: &mut [u16], done: &mut [u16], n: u16)
+pub(crate) fn order_all(run: &[u8], index: &mut [u16], done: &mut [u16], n: u16)
     requires { ⌜ Matched (now run) (now index) × (now done ≡ replicate 8 0) × (n ≡ headOf (now run) .processes) ⌝ }
     ensures { λ _. ⌜ Ordered (now (run .entry)) (now (done .exit)) (now (index .exit)) × Matched (now (run .entry)) (now (index .exit)) ⌝ }
 {
@@ -177,7 +177,7 @@ fn clock_fault(run: &[u8], index: &[u16], n: u16, p: u16) -> u16
 }
 
 // Of every process, into `bad`.
-pub fn clock_faults(run: &[u8], index: &[u16], bad: &mut [u16], n: u16)
+pub(crate) fn clock_faults(run: &[u8], index: &[u16], bad: &mut [u16], n: u16)
     requires { ⌜ Clocked (now run) (now index) n × (length (now bad) ≡ 8) ⌝ }
     ensures { λ _. ⌜ FirstsTo (now (run .entry)) (WrongClock (now (run .entry))) n (now (bad .exit)) ⌝ }
 {

@@ -180,7 +180,7 @@ fn pair_row(run: &[u8], index: &mut [u16], marks: &mut [u64], hints: &mut [u16],
 }
 
 // Every process: its first faulty state, or 0, into `bad`, and the partners.
-pub fn pair_all(run: &[u8], index: &mut [u16], bad: &mut [u16], n: u16)
+fn pair_all(run: &[u8], index: &mut [u16], bad: &mut [u16], n: u16)
     requires { ⌜ NewlyListed (now run) (now index) n × (length (now bad) ≡ 8) ⌝ }
     ensures { λ _. ⌜ ProcessesPaired (runIn (now (run .entry))) n (now (bad .exit)) (now (index .exit)) ⌝ }
     ensures { λ _. ⌜ Listed (now (run .entry)) (now (index .exit)) ⌝ }
@@ -197,7 +197,7 @@ pub fn pair_all(run: &[u8], index: &mut [u16], bad: &mut [u16], n: u16)
 }
 
 // The first record in file order that is a second send or receive, or a receive with no send; where there is none, the partners.
-pub fn first_unpaired(run: &[u8], index: &mut [u16], n: u16) -> FirstFault
+pub(crate) fn first_unpaired(run: &[u8], index: &mut [u16], n: u16) -> FirstFault
     requires { ⌜ NewlyListed (now run) (now index) n ⌝ }
     ensures { λ r. ⌜ PairingJudged (now (run .entry)) (now (index .exit)) r × Listed (now (run .entry)) (now (index .exit)) ⌝ }
 {

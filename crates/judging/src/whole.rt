@@ -43,7 +43,7 @@ fn undone(index: &[u16], done: &[u16], bad: &mut [u16], n: u16)
 }
 
 // The first record in file order whose state is on a circle or after one; where there is none, the clocks.
-pub fn first_circular(run: &[u8], index: &mut [u16], n: u16) -> FirstFault
+fn first_circular(run: &[u8], index: &mut [u16], n: u16) -> FirstFault
     requires { ⌜ Matched (now run) (now index) × (n ≡ headOf (now run) .processes) ⌝ }
     ensures { λ r. ⌜ CircleJudged (now (run .entry)) (now (index .exit)) r × Matched (now (run .entry)) (now (index .exit)) ⌝ }
 {
@@ -55,7 +55,7 @@ pub fn first_circular(run: &[u8], index: &mut [u16], n: u16) -> FirstFault
 }
 
 // The first record in file order with a clock number other than the rule's.
-pub fn first_wrong_clock(run: &[u8], index: &[u16], n: u16) -> FirstFault
+fn first_wrong_clock(run: &[u8], index: &[u16], n: u16) -> FirstFault
     requires { ⌜ Clocked (now run) (now index) n ⌝ }
     ensures { λ r. ⌜ ClockJudged (now (run .entry)) r ⌝ }
 {

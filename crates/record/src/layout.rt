@@ -24,7 +24,7 @@ pub fn channel_place(h: u16) -> usize
 }
 
 // The first state's record, behind the channels.
-pub fn states_place(head: Head) -> usize
+pub(crate) fn states_place(head: Head) -> usize
     ensures { λ r. ⌜ r ≡ statesPlace head ⌝ }
 {
     channel_place(head.channels)
@@ -38,7 +38,7 @@ pub fn value_place(v: u16) -> usize
 }
 
 // A state's record, whose clock has two bytes a process.
-pub fn state_length(head: Head) -> usize
+pub(crate) fn state_length(head: Head) -> usize
     ensures { λ r. ⌜ r ≡ stateLength head ⌝ }
 {
     CLOCK_PLACE + 2 * (head.processes as usize)

@@ -26,7 +26,7 @@ ghost use Rattle.record.specs.Inner.{valuesPlace};
 ghost use Rattle.record.specs.Record.{lengthOf, frameNo, headOf, due, openingNo, stepNo, channelFieldsAt, stateFieldsAt, recordAt, stepAt};
 
 // The length that the paper's table gives a kind of a run; 0 for any other kind.
-pub fn length_of(kind: u16, head: Head) -> usize
+fn length_of(kind: u16, head: Head) -> usize
     ensures { λ r. ⌜ r ≡ lengthOf kind head ⌝ }
 {
     match kind {
@@ -70,7 +70,7 @@ pub fn head_of(run: &[u8]) -> Head
 }
 
 // Whether a kind may stand at a place: the head, then the channels, then states and the end.
-pub fn is_due(head: Head, at: usize, kind: u16) -> bool
+fn is_due(head: Head, at: usize, kind: u16) -> bool
     ensures { λ r. ⌜ r ≡ due head at kind ⌝ }
 {
     if at == 0 {
@@ -83,7 +83,7 @@ pub fn is_due(head: Head, at: usize, kind: u16) -> bool
 }
 
 // 2, 3, 2, 4, 3: the frame, the kind, the kind's length.
-pub fn opening_no(run: &[u8], head: Head, at: usize) -> u16
+fn opening_no(run: &[u8], head: Head, at: usize) -> u16
     requires { ⌜ head ≡ headOf (now run) ⌝ }
     ensures { λ r. ⌜ r ≡ openingNo (now (run .entry)) at ⌝ }
 {
@@ -98,7 +98,7 @@ pub fn opening_no(run: &[u8], head: Head, at: usize) -> u16
 }
 
 // The same, then 6.
-pub fn step_no(run: &[u8], head: Head, at: usize) -> u16
+fn step_no(run: &[u8], head: Head, at: usize) -> u16
     requires { ⌜ head ≡ headOf (now run) ⌝ }
     ensures { λ r. ⌜ r ≡ stepNo (now (run .entry)) at ⌝ }
 {

@@ -66,7 +66,7 @@ pub fn event_at(run: &[u8], index: &[u16], p: u16, k: u16) -> Event
 }
 
 // Process p has one state more, at the place at.
-pub fn keep(index: &mut [u16], p: u16, at: usize)
+pub(crate) fn keep(index: &mut [u16], p: u16, at: usize)
     requires { ⌜ HasRoom (now index) p at ⌝ }
     ensures { λ _. ⌜ now (index .exit) ≡ withState (now (index .entry)) p at ⌝ }
 {

@@ -39,7 +39,7 @@ fn channel_clause(run: &[u8], index: &[u16], cond: &[u8], at: usize, cut: &[u16]
 }
 
 // The first local clause that is false.
-pub fn first_local(
+pub(crate) fn first_local(
     run: &[u8],
     index: &[u16],
     cond: &[u8],
@@ -61,7 +61,7 @@ pub fn first_local(
 }
 
 // The first channel clause that is false.
-pub fn first_channel(
+pub(crate) fn first_channel(
     run: &[u8],
     index: &[u16],
     cond: &[u8],

@@ -1,8 +1,8 @@
 // The search: from state 1 everywhere, whoever a false clause or a clock test names moves on, until nobody has to or a history runs out.
 // `movers` says whom one clause names, `clauses` the first that is false, `satisfying` whether a cut satisfies, `eliminate` moves on.
-pub mod clauses;
+mod clauses;
 pub mod eliminate;
-pub mod movers;
+mod movers;
 pub mod satisfying;
 
 pub enum Outcome {

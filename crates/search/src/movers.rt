@@ -23,7 +23,7 @@ ghost use Rattle.condition.specs.Known.{LocalKnown, TestKnown};
 ghost use Rattle.search.specs.Search.{Tested, EndNamed, ChannelAsked};
 
 // A local clause names its process.
-pub fn local_mover(run: &[u8], index: &[u16], cut: &[u16], clause: Local) -> HasToMove
+pub(crate) fn local_mover(run: &[u8], index: &[u16], cut: &[u16], clause: Local) -> HasToMove
     requires { ⌜ IndexHolds (now run) (now index) × IsCut (runIn (now run)) (now cut) × LocalKnown (headOf (now run)) clause ⌝ }
     ensures { λ r. ⌜ Tested (runIn (now (run .entry))) (now (cut .entry)) (clauseOf (Clause.Local clause)) r ⌝ }
 {
@@ -83,7 +83,7 @@ fn stamped_mover(run: &[u8], index: &[u16], cut: &[u16], clause: Test) -> HasToM
 }
 
 // A channel clause names its sender or its receiver.
-pub fn channel_mover(run: &[u8], index: &[u16], cut: &[u16], clause: Test) -> HasToMove
+pub(crate) fn channel_mover(run: &[u8], index: &[u16], cut: &[u16], clause: Test) -> HasToMove
     requires { ⌜ ChannelAsked (now run) (now index) (now cut) clause ⌝ }
     ensures { λ r. ⌜ Tested (runIn (now (run .entry))) (now (cut .entry)) (clauseOf (Clause.Channel clause)) r ⌝ }
 {

@@ -17,7 +17,7 @@ ghost use Rattle.record.specs.Record.{stateFieldsAt};
 ghost use Rattle.states.specs.States.{messageOf, eventOf, channelAt};
 ghost use Rattle.states.specs.Inner.{held, HasChannel};
 
-pub fn message_of(f: StateFields) -> Message
+fn message_of(f: StateFields) -> Message
     ensures { λ r. ⌜ r ≡ messageOf f ⌝ }
 {
     let stamp = signed_of(f.stamp);
@@ -28,7 +28,7 @@ pub fn message_of(f: StateFields) -> Message
     }
 }
 
-pub fn event_of(f: StateFields) -> Event
+fn event_of(f: StateFields) -> Event
     ensures { λ r. ⌜ r ≡ eventOf f ⌝ }
 {
     let event = f.event;

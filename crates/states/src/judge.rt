@@ -19,7 +19,7 @@ ghost use Rattle.states.specs.Judge.{headNo, channelNo, nameNo, fieldNo,
 ghost use Rattle.states.specs.Inner.{HasChannel, StateBeside, RecordBeside};
 
 // 5: the numbers of processes and channels.
-pub fn head_no(head: Head) -> u16
+fn head_no(head: Head) -> u16
     ensures { λ r. ⌜ r ≡ headNo head ⌝ }
 {
     let number = or_if(0, head.processes == 0, LIMIT);
@@ -28,7 +28,7 @@ pub fn head_no(head: Head) -> u16
 }
 
 // 7: the channel's number in turn, its ends processes that differ.
-pub fn channel_no(processes: u16, at: usize, line: ChannelFields) -> u16
+fn channel_no(processes: u16, at: usize, line: ChannelFields) -> u16
     ensures { λ r. ⌜ r ≡ channelNo processes at line ⌝ }
 {
     let number = or_if(0, channel_place(line.number) != at, NAME);
@@ -38,7 +38,7 @@ pub fn channel_no(processes: u16, at: usize, line: ChannelFields) -> u16
 }
 
 // 7: the process, and of a send or a receive the channel, have to exist.
-pub fn name_no(head: Head, f: StateFields) -> u16
+fn name_no(head: Head, f: StateFields) -> u16
     ensures { λ r. ⌜ r ≡ nameNo head f ⌝ }
 {
     let number = or_if(0, head.processes <= f.process, NAME);
@@ -47,7 +47,7 @@ pub fn name_no(head: Head, f: StateFields) -> u16
 }
 
 // 8: the event is known, and what it doesn't use is zero.
-pub fn field_no(f: StateFields) -> u16
+fn field_no(f: StateFields) -> u16
     ensures { λ r. ⌜ r ≡ fieldNo f ⌝ }
 {
     let number = or_if(0, 3 < f.event, FIELD);
@@ -57,7 +57,7 @@ pub fn field_no(f: StateFields) -> u16
 }
 
 // 9: a process's first state, and no other, is a start.
-pub fn start_no(f: StateFields, count: u16) -> u16
+fn start_no(f: StateFields, count: u16) -> u16
     ensures { λ r. ⌜ r ≡ startNo f count ⌝ }
 {
     let number = or_if(0, (f.event == 0) & (count != 0), START);
@@ -65,7 +65,7 @@ pub fn start_no(f: StateFields, count: u16) -> u16
 }
 
 // 10: only the channel's ends send and receive on it.
-pub fn side_no(run: &[u8], f: StateFields) -> u16
+fn side_no(run: &[u8], f: StateFields) -> u16
     requires { ⌜ (f .event ≡ 2 → HasChannel (now run) (f .channel)) × (f .event ≡ 3 → HasChannel (now run) (f .channel)) ⌝ }
     ensures { λ r. ⌜ r ≡ sideNo (now (run .entry)) f ⌝ }
 {
@@ -78,7 +78,7 @@ pub fn side_no(run: &[u8], f: StateFields) -> u16
 }
 
 // A state in the order 7, 5, 8, 9, 10.
-pub fn state_no(run: &[u8], head: Head, counts: &[u16], f: StateFields) -> u16
+fn state_no(run: &[u8], head: Head, counts: &[u16], f: StateFields) -> u16
     requires { ⌜ StateBeside (now run) head (now counts) ⌝ }
     ensures { λ r. ⌜ r ≡ stateNo (now (run .entry)) (now (counts .entry)) f ⌝ }
 {
@@ -95,7 +95,7 @@ pub fn state_no(run: &[u8], head: Head, counts: &[u16], f: StateFields) -> u16
 }
 
 // One of the first n processes has no state.
-pub fn lacking(counts: &[u16], n: u16) -> bool
+fn lacking(counts: &[u16], n: u16) -> bool
     requires { ⌜ n ≤ length (now counts) ⌝ }
     ensures { λ r. ⌜ r ≡ lacks (now (counts .entry)) n ⌝ }
 {

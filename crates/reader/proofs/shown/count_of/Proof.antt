@@ -4,7 +4,6 @@ use mathlib.Core.Path.{ap, sym, _∙_}
 use mathlib.Core.Bool.{_||_}
 use lib.Dec.{ltb}
 use denote.Ref.{now}
-use Rattle.record.specs.Record.{lengthAt}
 use Rattle.reader.specs.Shown.{least}
 use Rattle.reader.proofs.Parts.{shown-rest, shown-stated, length-there}
 use Rattle.reader.proofs.shown.count_of.Statement.{statement}
