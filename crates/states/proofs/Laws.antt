@@ -84,6 +84,7 @@ pub record StateOk (s : List ℕ) (count : ℕ) (f : StateFields) : Type 0 where
   pub names : NamesOk (headOf s) f
   pub room : count < 512
   pub event : f .event < 4
+  pub fields : fieldNo f ≡ 0
   pub start : f .event ≡ 0 → count ≡ 0
   pub first : count ≡ 0 → f .event ≡ 0
   pub sends : f .event ≡ 2 → channelAt s (f .channel) .from ≡ f .process
@@ -107,6 +108,7 @@ state-ok s counts f e =
       names = named (headOf s) f (g .0);
       room = leb-false _ _ (g .1);
       event = omega arith;
+      fields = d .1;
       start = λ z. same _ _ (half _ _ (s1 .1) (eq-eqb _ 0 z));
       first = λ z. first (f .event) (getD counts (f .process) 0) (s2 .1) z;
       sends = λ z. same _ _ (orIf-ok 0 _ side (simp z at (a .1)) .1);

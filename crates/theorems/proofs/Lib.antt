@@ -2,3 +2,4 @@ pub mod Determined
 pub mod Demands
 pub mod Marked
 pub mod Refusals
+pub mod Agreement
