@@ -3,3 +3,4 @@ pub mod Demands
 pub mod Marked
 pub mod Refusals
 pub mod Agreement
+pub mod Numbers
