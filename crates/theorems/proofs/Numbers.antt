@@ -1,33 +1,28 @@
 -- Reading an accepted record and numbering it again gives its fields back: events, kinds of records, comparisons, tests; and the file of a refusal.
 use mathlib.Core.Path.{_≡_, refl, sym, ap, _∙_, subst}
 use mathlib.Core.Logic.{⊎-elim}
-use mathlib.Core.Bool.{Bool, true, false, not, _&&_}
 use mathlib.Core.List.{List}
 use Prim.Native.Nat.{ℕ, zero, suc, _≤_, _<_}
 use native.Mathlib.Omega.{arith}
-use borrow.Author.Tests.{ltb-false, eqb-true, not-false}
-use lib.Dec.{eqb, ltb}
 use lib.IntN.{ℤ, pos}
 use lib.ListN.{length, getD}
-use Rattle.model.proofs.Numbers.{never}
 use Rattle.model.specs.declared.Event.{Event}
 use Rattle.model.specs.declared.Event.the-variants.{Start, Internal, Send, Receive}
 use Rattle.model.specs.Run.{into, IsState}
 use Rattle.model.specs.Clause.{Clause}
 use Rattle.record.specs.Bytes.{signed}
 use Rattle.record.specs.Record.{kindAt, headOf, stateFieldsAt, stepAt}
-use Rattle.record.specs.Refusal.Reason.{field}
 use Rattle.record.specs.declared.Head.{Head}
 use Rattle.record.specs.declared.Record.{Record}
 use Rattle.record.specs.declared.StateFields.{StateFields}
 use Rattle.record.specs.declared.Step.the-variants as S
-use Rattle.record.proofs.Laws.{orIf-ok, by-place}
+use Rattle.record.proofs.Laws.{by-place}
 use Rattle.states.specs.States.{messageOf, eventOf}
-use Rattle.states.specs.Judge.{fieldNo}
+use Rattle.states.proofs.Laws.{FieldsOk}
 use Rattle.run.specs.Read as R
 use Rattle.run.specs.Said.{runIn, placeOf}
 use Rattle.run.proofs.Accepted.{record-stepped}
-use Rattle.run.proofs.Listed.{event-is, fields-right}
+use Rattle.run.proofs.Listed.{event-is, fields-are}
 use Rattle.judging.specs.Accepted.{RunAccepted}
 use Rattle.judging.proofs.Acceptance.{accepted-read}
 use Rattle.condition.specs.declared.Clause as H
@@ -47,54 +42,33 @@ use Rattle.theorems.specs.Numbers.{comparisonNumber, testNumber, Operand
 -- ---- events
 
 -- of a record whose event is known, and in which what the event doesn't use is zero
-module _ (f : StateFields) where
-  -- the second half of a test of two halves
-  unused : (t : Bool) (n : ℕ) → t ≡ true → (t && not (eqb n 0)) ≡ false → n ≡ 0
-  unused true n k e = eqb-true n 0 (not-false _ e)
-  unused false n k e = never (cc)
-
-  record Unused : Type 0 where
-    channel : ltb (f .event) 2 ≡ true → f .channel ≡ 0
-    message : ltb (f .event) 2 ≡ true → f .message ≡ 0
-    stamp : not (eqb (f .event) 2) ≡ true → f .stamp ≡ 0
-
+module _ (f : StateFields) (ok : FieldsOk f) where
   same-fields : {a a′ b b′ c c′ : ℕ} {x x′ : ℤ} → a ≡ a′ → b ≡ b′ → c ≡ c′ → x ≡ x′
       → _≡_ {A = EventFields} (record { event = a; channel = b; message = c; stamp = x }) (record { event = a′; channel = b′; message = c′; stamp = x′ })
   same-fields p q r z = rw (p, q, r, z) refl
 
-  no-message : ltb (f .event) 2 ≡ true → not (eqb (f .event) 2) ≡ true → Unused → {n : ℕ} → f .event ≡ n
-      → record { event = n; channel = 0; message = 0; stamp = pos 0 } ≡ recordedFields f
+  no-message : {n : ℕ} → f .event ≡ n → n < 2 → record { event = n; channel = 0; message = 0; stamp = pos 0 } ≡ recordedFields f
   unfolding signed
-  no-message low plain w e = same-fields (sym e) (sym (w .channel low)) (sym (w .message low)) (ap signed (sym (w .stamp plain)))
+  no-message e l = same-fields (sym e) (sym (ok .channel (omega arith))) (sym (ok .message (omega arith))) (ap signed (sym (ok .stamp (λ z. omega arith))))
 
   read : {e : Event} → eventOf f ≡ e → eventFields e ≡ recordedFields f → eventFields (eventOf f) ≡ recordedFields f
   read d w = ap eventFields d ∙ w
 
-  by-event : (n : ℕ) → f .event ≡ n → n ≤ 3 → Unused → eventFields (eventOf f) ≡ recordedFields f
+  by-event : (n : ℕ) → f .event ≡ n → eventFields (eventOf f) ≡ recordedFields f
   unfolding eventOf messageOf signed
-  by-event zero e l w = read {e = Start} (simp e) (no-message (ap (λ n. ltb n 2) e) (ap (λ n. not (eqb n 2)) e) w e)
-  by-event (suc zero) e l w = read {e = Internal} (simp e) (no-message (ap (λ n. ltb n 2) e) (ap (λ n. not (eqb n 2)) e) w e)
-  by-event (suc (suc zero)) e l w = read {e = Send (messageOf f)} (simp e) (same-fields (sym e) refl refl refl)
-  by-event (suc (suc (suc zero))) e l w =
-      read {e = Receive (messageOf f)} (simp e) (same-fields (sym e) refl refl (ap signed (sym (w .stamp (ap (λ n. not (eqb n 2)) e)))))
-  by-event (suc (suc (suc (suc n)))) e l w = absurd (omega arith)
-
-  event-fields : fieldNo f ≡ 0 → eventFields (eventOf f) ≡ recordedFields f
-  unfolding fieldNo
-  event-fields e =
-      let d = orIf-ok _ _ field e in
-      let c = orIf-ok _ _ field (d .0) in
-      let b = orIf-ok _ _ field (c .0) in
-      let a = orIf-ok _ _ field (b .0) in
-      let zeros : Unused = record { channel = λ t. unused _ _ t (b .1); message = λ t. unused _ _ t (c .1); stamp = λ t. unused _ _ t (d .1) } in
-      by-event (f .event) refl (ltb-false _ _ (a .1)) zeros
+  by-event zero e = read {e = Start} (simp e) (no-message e (omega arith))
+  by-event (suc zero) e = read {e = Internal} (simp e) (no-message e (omega arith))
+  by-event (suc (suc zero)) e = read {e = Send (messageOf f)} (simp e) (same-fields (sym e) refl refl refl)
+  by-event (suc (suc (suc zero))) e =
+      read {e = Receive (messageOf f)} (simp e) (same-fields (sym e) refl refl (ap signed (sym (ok .stamp (λ z. omega arith)))))
+  by-event (suc (suc (suc (suc n)))) e = absurd (omega (arith, ok .event))
 
 -- "An event is one of four kinds": numbering the event of a state of an accepted run gives back the fields of its record
 pub event-again : {s : List ℕ} → RunAccepted s → (p k : ℕ) → IsState (runIn s) p k
     → eventFields (into (runIn s) p k) ≡ recordedFields (stateFieldsAt s (placeOf s p k))
 event-again {s} v p k t =
     let read = accepted-read v refl in
-    ap eventFields (event-is s read p k t) ∙ event-fields (stateFieldsAt s (placeOf s p k)) (fields-right s read p k t)
+    ap eventFields (event-is s read p k t) ∙ by-event (stateFieldsAt s (placeOf s p k)) (fields-are s read p k t) _ refl
 
 -- ---- kinds of records
 
