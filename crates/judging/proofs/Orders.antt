@@ -21,12 +21,12 @@ use Rattle.model.specs.Cut.{AfterCircle, ClockIs}
 use Rattle.model.specs.Clocks.{Clocks}
 use Rattle.model.proofs.Numbers.{never, below-next}
 use Rattle.model.proofs.Lists.{le-or-lt}
-use Rattle.model.proofs.Pairing.{view, sent-there, process-there, send-start, receive-start, first-start, from-end, apart, one-send}
+use Rattle.model.proofs.Pairing.{view, sent-there, sent-later, process-there, receive-start, first-start, from-end, apart, one-send}
 use Rattle.model.proofs.Order.{clock-unique}
 use Rattle.model.proofs.Circle.{Direct, clear, waiting-circle}
 use Rattle.model.proofs.Clock.{clock-own, clock-first, clock-step, clock-receive}
 use Rattle.record.specs.Bytes.{u16At}
-use Rattle.run.specs.Said.{runIn, placeOf}
+use Rattle.run.specs.Said.{runIn, placeOf, recordedClock}
 use Rattle.run.specs.Index.{slot, partnerAt, clockRow, clockIn, Partnered, indexSize}
 use Rattle.run.proofs.Listed.{ok, processes-are}
 use Rattle.run.proofs.Kept.{kept-matched}
@@ -40,18 +40,9 @@ use Rattle.model.proofs.Total.{total-set, total-few}
 -- ---- the state ahead of the send
 
 module _ (r : Run) (known : Known r) where
-  -- a send is never into a first state
-  sent-later : {i k j l : ℕ} → Paired r i k j l → 2 ≤ k
-  sent-later {i} {k} p =
-      let s : IsState r i k = sent-there (view p .send) in
-      ⊎-elim
-      (λ h. h)
-      (λ h. let e : k ≡ 1 = omega (arith, s .counted) in absurd (send-start (sym (view p .send) ∙ ap (into r i) e ∙ first-start r known i)))
-      (le-or-lt 2 k)
-
   module _ (ix : List ℕ) (w : Partnered r ix) (p k : ℕ) (m : Message) (e : into r p k ≡ Receive m) where
     pub ahead-later : 2 ≤ getD ix (partnerAt p k) 0
-    ahead-later = let (i, l, q) = known .origin p k m e in omega (arith, w .received i l p k q, sent-later q)
+    ahead-later = let (i, l, q) = known .origin p k m e in omega (arith, w .received i l p k q, sent-later r known q)
 
     pub ahead-receive : (f : ℕ) → f ≡ channel r (m .channel) .from → AheadIs r p k f (getD ix (partnerAt p k) 0 - 1)
     ahead-receive f g =
@@ -331,7 +322,7 @@ module _ {s ix : List ℕ} {n : ℕ} (w : Clocked s ix n) (p k q : ℕ) (place :
   abbrev listed : ℕ → ℕ
   listed x = clockIn ix p k x
 
-  same-place : (x : ℕ) → recorded x ≡ u16At s (placeOf s p k + clockPlace + 2 * x)
+  same-place : (x : ℕ) → recorded x ≡ recordedClock s p k x
   same-place x = ap (λ q. u16At s (q + clockPlace + 2 * x)) place
 
   same-number : n ≡ processes (runIn s)
@@ -352,6 +343,6 @@ module _ {s ix : List ℕ} {n : ℕ} (w : Clocked s ix n) (p k q : ℕ) (place :
     differs = λ z. never (cc);
     agrees = λ z v.
         let x = v .place in
-        let right : u16At s (placeOf s p k + clockPlace + 2 * x) ≡ listed x = sym (same-place x) ∙ same x (omega (arith, same-number, v .there)) in
+        let right : recordedClock s p k x ≡ listed x = sym (same-place x) ∙ same x (omega (arith, same-number, v .there)) in
         v .wrong (rw right (w .clocks p k x t (v .there)));
   }

@@ -1,14 +1,12 @@
 -- What judging a whole run gives: the pass's refusal, or 11, 12, 13 at the first record in file order, or that the run is accepted.
 use mathlib.Core.Path.{_≡_}
-use Prim.Native.Nat.{ℕ, _+_, _*_, _≤_, _<_}
+use Prim.Native.Nat.{ℕ, _≤_, _<_}
 use mathlib.Core.List.{List}
 use lib.Dec.{T}
 use Rattle.model.specs.declared.Message.{Message}
 use Rattle.model.specs.declared.Event.the-variants.{Receive}
 use Rattle.model.specs.Run.{processes, into, IsState, sending, receiving, sameMessage, Paired}
 use Rattle.model.specs.Cut.{AfterCircle, ClockIs}
-use Rattle.record.specs.Bytes.{u16At}
-use Rattle.record.specs.Layout.{valueCount, valuePlace}
 use Rattle.record.specs.Record.{headOf}
 use Rattle.record.specs.Refusal.{number, refusal}
 use Rattle.record.specs.Refusal.Reason.{pairing, circle, clock}
@@ -18,7 +16,7 @@ use Rattle.run.specs.declared.RunReading.{RunReading}
 use Rattle.run.specs.declared.RunReading.the-variants.{Accepted, Refused}
 use Rattle.run.specs.Read.{readOf}
 use Rattle.record.specs.Pass.Read.{refused, accepted}
-use Rattle.run.specs.Said.{statesOf, runIn, placeOf}
+use Rattle.run.specs.Said.{statesOf, runIn, placeOf, recordedClock}
 
 -- s are the run's bytes; p and k, and i and j, a process and the number of one of its states
 module _ (s : List ℕ) where
@@ -34,7 +32,7 @@ module _ (s : List ℕ) where
   pub record WrongClock (p k : ℕ) : Type 0 where
     pub place : ℕ
     pub there : place < processes (runIn s)
-    pub wrong : ¬ ClockIs (runIn s) p k place (u16At s (placeOf s p k + valuePlace valueCount + 2 * place))
+    pub wrong : ¬ ClockIs (runIn s) p k place (recordedClock s p k place)
 
   -- the first record in file order at which a state has the fault
   pub record FirstAt (Fault : ℕ → ℕ → Type 0) (at : ℕ) : Type 0 where

@@ -15,8 +15,9 @@ use Rattle.model.specs.declared.Event.the-variants.{Send, Receive}
 use Rattle.model.specs.Run.{Run, into, channel, paired, Paired}
 use Rattle.model.specs.Known.{Known}
 use Rattle.model.specs.Cut.{at, IsCut, Consistent, ByMessage, sends, waiting, add, upTo, between, inTransit}
+use Rattle.model.specs.Sent.{receives, sentUpTo, receivedUpTo}
 use Rattle.model.proofs.Pairing.{view, from-end, one-send, one-receive, sent-there}
-use Rattle.model.proofs.Messages.{arrived, receives, sends-send, send-sends, receives-receive, receive-receives, arrived-at}
+use Rattle.model.proofs.Messages.{arrived, sends-send, send-sends, receives-receive, receive-receives, arrived-at}
 use Rattle.model.proofs.Order.{consistent-by-message}
 
 -- lists that agree state by state are as long, and one that has a message more at one state is longer by one
@@ -122,7 +123,7 @@ module _ (r : Run) (known : Known r) (c : ℕ) where
           one-more a b k (p .sent) (p .send) (p .on ∙ ap (λ n. n .channel) same ∙ y) q h ∙ ap suc rest
 
   pub conserved : (cut : List ℕ) → IsCut r cut → Consistent r cut
-      → length (upTo (sends r c) (at cut (channel r c .from))) ≡ length (upTo (receives r c) (at cut (channel r c .to))) + length (inTransit r cut c)
+      → length (sentUpTo r cut c) ≡ length (receivedUpTo r cut c) + length (inTransit r cut c)
   unfolding inTransit ByMessage
   conserved cut is ok =
       let a = at cut (channel r c .from) in

@@ -12,6 +12,7 @@ use Rattle.model.specs.declared.Event.{Event}
 use Rattle.model.specs.declared.Event.the-variants.{Start, Internal, Send, Receive}
 use Rattle.model.specs.Run.{Run, into, channel, sending, receiving, paired, Paired}
 use Rattle.model.specs.Cut.{onChannel, sends, someUpTo}
+use Rattle.model.specs.Sent.{receives}
 use Rattle.model.proofs.Lists.{eq→eqb, some-at, at-some}
 
 pub sending-send : (e : Event) (m : Message) → sending e ≡ some m → e ≡ Send m
@@ -44,10 +45,6 @@ some-on c m e = go (eqb (m .channel) c) (eq→eqb (m .channel) c e)
     go : (b : Bool) → T b → cond b (some m) none ≡ some m
     go true t = refl
     go false t = absurd t
-
--- what state l of channel c's receiver receives on c
-unfoldable pub receives : Run → ℕ → ℕ → Option Message
-receives r c l = onChannel c (receiving (into r (channel r c .to) l))
 
 module _ (r : Run) (c : ℕ) where
   pub sends-send : (k : ℕ) (m : Message) → sends r c k ≡ some m → (into r (channel r c .from) k ≡ Send m) × (m .channel ≡ c)

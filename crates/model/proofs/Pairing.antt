@@ -96,6 +96,15 @@ module _ (r : Run) (known : Known r) where
       (λ h. ap (λ s. s .event) (List·getD-eq-default (history r i) noState {n = 0} (omega arith)))
       (le-or-lt 1 (count r i))
 
+  -- a send is never into a first state
+  pub sent-later : {i k j l : ℕ} → Paired r i k j l → 2 ≤ k
+  sent-later {i} {k} p =
+      let s : IsState r i k = sent-there (view p .send) in
+      ⊎-elim
+      (λ h. h)
+      (λ h. let e : k ≡ 1 = omega (arith, s .counted) in absurd (send-start (sym (view p .send) ∙ ap (into r i) e ∙ first-start i)))
+      (le-or-lt 2 k)
+
   pub from-end : {i k j l : ℕ} (p : Pair r i k j l) → channel r (p .received .channel) .from ≡ i
   from-end p = from-side r (known .sides) p
 

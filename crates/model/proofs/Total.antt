@@ -1,4 +1,4 @@
--- What the numbers of a list add up to: one more at a place, and a bound.
+-- What the numbers of a list add up to: one more at a place, and bounds.
 use mathlib.Core.Path.{_≡_}
 use mathlib.Core.List.{List, [], _∷_}
 use Prim.Native.Nat.{ℕ, zero, suc, _+_, _*_, _≤_, _<_}
@@ -16,3 +16,9 @@ pub total-few : (l : List ℕ) → ((i : ℕ) → i < length l → getD l i 0 �
 unfolding total
 total-few [] w = omega arith
 total-few (x ∷ l) w = omega (arith, w 0 (omega arith), total-few l (λ i h. w (suc i) (omega arith)))
+
+pub total-below : (l m : List ℕ) → ((i : ℕ) → getD l i 0 ≤ getD m i 0) → total l ≤ total m
+unfolding total
+total-below [] m w = omega arith
+total-below (x ∷ l) [] w = omega (arith, w 0, total-below l [] (λ i. w (suc i)))
+total-below (x ∷ l) (y ∷ m) w = omega (arith, w 0, total-below l m (λ i. w (suc i)))

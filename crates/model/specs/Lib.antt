@@ -3,6 +3,7 @@ pub mod Cut
 pub mod Clause
 pub mod Known
 pub mod Clocks
+pub mod Sent
 pub mod Linear
 pub mod Same
 pub mod Last

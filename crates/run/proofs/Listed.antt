@@ -15,6 +15,7 @@ use Rattle.record.specs.Pass.Read.{accepted}
 use Rattle.record.specs.Record.{headOf, stateFieldsAt}
 use Rattle.states.specs.States.{eventOf, stateAt, channelAt, placesOf}
 use Rattle.states.specs.Inner.{HasChannel}
+use Rattle.states.proofs.Laws.{FieldsOk}
 use Rattle.run.specs.Read.{readOf}
 use Rattle.run.specs.Said.{statesOf, runIn, placeOf}
 use Rattle.run.specs.Index.{placeAt, HasSlot, Listed}
@@ -95,6 +96,12 @@ module _ (s : List ℕ) (read : readOf s ≡ accepted (statesOf s)) where
   unfolding runIn
   process-is p zero w = absurd (omega (arith, w .counted))
   process-is p (suc k) w = ap (λ q. stateFieldsAt s q .process) (sym (place-at p k)) ∙ state-judged s qs ok p k w .process
+
+  -- its event is known, and what the event doesn't use is zero
+  pub fields-are : (p k : ℕ) → IsState (runIn s) p k → FieldsOk (stateFieldsAt s (placeOf s p k))
+  unfolding runIn
+  fields-are p zero w = absurd (omega (arith, w .counted))
+  fields-are p (suc k) w = subst (λ q. FieldsOk (stateFieldsAt s q)) (place-at p k) (state-judged s qs ok p k w .right .fields)
 
   -- within a process, file order is the order of its states
   rise : (p j j′ : ℕ) → j < j′ → j′ < length (placesOf s qs p) → getD (placesOf s qs p) j 0 < getD (placesOf s qs p) j′ 0

@@ -130,7 +130,7 @@ module _ (s qs : List ℕ) where
     receiver i zero m e = let w : IsState (runOf s qs) i 0 = received-there e in absurd (omega arith)
     receiver i (suc k) m e =
         let j = state-judged ok i k (received-there e) in
-        let (a, b) = event-receive _ m (j .right .event) (sym (j .event) ∙ e) in
+        let (a, b) = event-receive _ m (j .right .fields .event) (sym (j .event) ∙ e) in
         let c : m .channel < headOf s .channels = subst (λ n. n .channel < headOf s .channels) (sym b) (j .right .names .receive a) in
         let end = ap (λ x. x .to) (run-channel (m .channel) c) ∙ ap (λ n. channelAt s (n .channel) .to) b in
         (omega (arith, run-channels), end ∙ j .right .takes a ∙ j .process)

@@ -1,8 +1,10 @@
 -- The run that a file's bytes say.
 use mathlib.Core.List.{List}
-use Prim.Native.Nat.{ℕ, _-_}
+use Prim.Native.Nat.{ℕ, _+_, _-_, _*_}
 use lib.ListN.{getD}
 use Rattle.model.specs.Run.{Run}
+use Rattle.record.specs.Bytes.{u16At}
+use Rattle.record.specs.Layout.{valueCount, valuePlace}
 use Rattle.record.specs.Pass.{placesIn}
 use Rattle.states.specs.States.{placesOf, runOf}
 use Rattle.run.specs.Read.{readOf}
@@ -18,3 +20,7 @@ runIn s = runOf s (statesOf s)
 -- the byte place of state k of process p
 abbrev pub placeOf : List ℕ → ℕ → ℕ → ℕ
 placeOf s p k = getD (placesOf s (statesOf s) p) (k - 1) 0
+
+-- the number that the record of state k of process p has in place i of its clock
+abbrev pub recordedClock : List ℕ → ℕ → ℕ → ℕ → ℕ
+recordedClock s p k i = u16At s (placeOf s p k + valuePlace valueCount + 2 * i)

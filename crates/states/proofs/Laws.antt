@@ -6,7 +6,7 @@ use mathlib.Core.List.{List}
 use Prim.Native.Nat.{ℕ, zero, suc, _+_, _≤_, _<_}
 use native.Mathlib.Nat.{eq-or-lt-of-le}
 use native.Mathlib.Omega.{arith}
-use borrow.Author.Tests.{ltb-false, leb-false, eqb-true, eqb-false, eq-eqb, not-false}
+use borrow.Author.Tests.{ltb-false, lt-ltb, leb-false, eqb-true, eqb-false, eq-eqb, ne-eqb, not-false}
 use lib.Dec.{eqb, leb}
 use lib.ListN.{length, getD}
 use Rattle.model.proofs.Numbers.{never, positive}
@@ -80,17 +80,39 @@ named h f e =
       receive = λ z. leb-false _ _ (half _ _ (a .1) (eq-eqb _ 3 z));
     }
 
+-- the event is known, and what it doesn't use is zero
+pub record FieldsOk (f : StateFields) : Type 0 where
+  pub event : f .event < 4
+  pub channel : f .event < 2 → f .channel ≡ 0
+  pub message : f .event < 2 → f .message ≡ 0
+  pub stamp : (f .event ≡ 2 → ⊥) → f .stamp ≡ 0
+
+pub fields-ok : (f : StateFields) → fieldNo f ≡ 0 → FieldsOk f
+unfolding fieldNo
+fields-ok f e =
+    let a = orIf-ok _ _ field e in
+    let b = orIf-ok _ _ field (a .0) in
+    let d = orIf-ok _ _ field (b .0) in
+    let g = orIf-ok _ _ field (d .0) in
+    let few : f .event ≤ 3 = ltb-false _ _ (g .1) in
+    record {
+      event = omega arith;
+      channel = λ l. same _ _ (half _ _ (d .1) (lt-ltb _ _ l));
+      message = λ l. same _ _ (half _ _ (b .1) (lt-ltb _ _ l));
+      stamp = λ n. same _ _ (half _ _ (a .1) (ap not (ne-eqb _ 2 n)));
+    }
+
 pub record StateOk (s : List ℕ) (count : ℕ) (f : StateFields) : Type 0 where
   pub names : NamesOk (headOf s) f
   pub room : count < 512
-  pub event : f .event < 4
+  pub fields : FieldsOk f
   pub start : f .event ≡ 0 → count ≡ 0
   pub first : count ≡ 0 → f .event ≡ 0
   pub sends : f .event ≡ 2 → channelAt s (f .channel) .from ≡ f .process
   pub takes : f .event ≡ 3 → channelAt s (f .channel) .to ≡ f .process
 
 pub state-ok : (s counts : List ℕ) (f : StateFields) → stateNo s counts f ≡ 0 → StateOk s (getD counts (f .process) 0) f
-unfolding stateNo fieldNo startNo sideNo
+unfolding stateNo startNo sideNo
 state-ok s counts f e =
     let a = orElse-ok _ _ e in
     let b = orElse-ok _ _ (a .0) in
@@ -98,15 +120,10 @@ state-ok s counts f e =
     let g = orIf-ok _ _ limit (d .0) in
     let s2 = orIf-ok _ _ start (b .1) in
     let s1 = orIf-ok _ _ start (s2 .0) in
-    let f4 = orIf-ok _ _ field (d .1) in
-    let f3 = orIf-ok _ _ field (f4 .0) in
-    let f2 = orIf-ok _ _ field (f3 .0) in
-    let f1 = orIf-ok _ _ field (f2 .0) in
-    let few : f .event ≤ 3 = ltb-false _ _ (f1 .1) in
     record {
       names = named (headOf s) f (g .0);
       room = leb-false _ _ (g .1);
-      event = omega arith;
+      fields = fields-ok f (d .1);
       start = λ z. same _ _ (half _ _ (s1 .1) (eq-eqb _ 0 z));
       first = λ z. first (f .event) (getD counts (f .process) 0) (s2 .1) z;
       sends = λ z. same _ _ (orIf-ok 0 _ side (simp z at (a .1)) .1);

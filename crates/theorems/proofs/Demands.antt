@@ -85,10 +85,10 @@ module _ {s c lent lent′ : List ℕ} where
 
 -- ---- demand 2
 
-known : {s : List ℕ} → RunAccepted s → Known (runIn s)
+pub known : {s : List ℕ} → RunAccepted s → Known (runIn s)
 known v = accepted-known v refl
 
-size : {s : List ℕ} → RunAccepted s → processes (runIn s) ≡ headOf s .processes
+pub size : {s : List ℕ} → RunAccepted s → processes (runIn s) ≡ headOf s .processes
 size {s} v = processes-are s (accepted-read v refl)
 
 -- "A non-linear condition is refused": none is accepted, and 14 is the number of a clause with test 8 or 9 whose channel exists

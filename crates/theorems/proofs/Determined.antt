@@ -38,8 +38,8 @@ wrote-one {cut} {lent} {a} {b} v w = ext-getD 0 a b (v .long ∙ sym (w .long))
     less l = omega arith
 
 -- a condition is refused once, and no accepted one is refused
-same-condition : {v : D.Read} {x y : Refusal} → v ≡ refused x → v ≡ refused y → x ≡ y
-same-condition d e = cc
+pub refused-once : {v : D.Read} {x y : Refusal} → v ≡ refused x → v ≡ refused y → x ≡ y
+refused-once d e = cc
 
 not-read : {v : D.Read} {x : Refusal} {places : List ℕ} → v ≡ refused x → v ≡ accepted places → ⊥
 not-read d e = never (cc)
@@ -60,7 +60,7 @@ module _ {s : List ℕ} where
   answered-one (runRefused x v e) (tooEarly v′ h′ cut′ f′ n′ e′) = absurd (not-both v (v′ .run))
   answered-one (runRefused x v e) (found v′ h′ cut′ f′ b′ g′) = absurd (not-both v (v′ .run))
   answered-one (condRefused x v r e) (runRefused x′ v′ e′) = absurd (not-both v′ v)
-  answered-one (condRefused x v r e) (condRefused x′ v′ r′ e′) = (ap A.Refused (same-condition r r′), e ∙ sym e′)
+  answered-one (condRefused x v r e) (condRefused x′ v′ r′ e′) = (ap A.Refused (refused-once r r′), e ∙ sym e′)
   answered-one (condRefused x v r e) (few v′ h′ e′) = absurd (not-read r (v′ .cond))
   answered-one (condRefused x v r e) (none v′ h′ n′ e′) = absurd (not-read r (v′ .cond))
   answered-one (condRefused x v r e) (tooEarly v′ h′ cut′ f′ n′ e′) = absurd (not-read r (v′ .cond))
@@ -162,7 +162,7 @@ module _ {s : List ℕ} where
   satisfies-one (AskedSatisfies.runRefused x j) (AskedSatisfies.yes k e u) = absurd (not-both j k)
   satisfies-one (AskedSatisfies.runRefused x j) (AskedSatisfies.no k e l u) = absurd (not-both j k)
   satisfies-one (AskedSatisfies.conditionRefused x j d) (AskedSatisfies.runRefused y k) = absurd (not-both k j)
-  satisfies-one (AskedSatisfies.conditionRefused x j d) (AskedSatisfies.conditionRefused y k e) = ap W.Refused (same-condition d e)
+  satisfies-one (AskedSatisfies.conditionRefused x j d) (AskedSatisfies.conditionRefused y k e) = ap W.Refused (refused-once d e)
   satisfies-one (AskedSatisfies.conditionRefused x j d) (AskedSatisfies.notCut k e m) = absurd (not-read d e)
   satisfies-one (AskedSatisfies.conditionRefused x j d) (AskedSatisfies.yes k e u) = absurd (not-read d e)
   satisfies-one (AskedSatisfies.conditionRefused x j d) (AskedSatisfies.no k e l u) = absurd (not-read d e)

@@ -27,7 +27,7 @@ use Rattle.states.specs.Judge.{headNo, channelNo, nameNo, fieldNo, startNo, sid
 use Rattle.record.specs.Pass.{ended, readFrom, readFile}
 use Rattle.run.specs.Read.{countsOf, readOf}
 use Rattle.record.specs.Pass.Read.{accepted}
-use Rattle.run.specs.Said.{statesOf, runIn, placeOf}
+use Rattle.run.specs.Said.{statesOf, runIn, placeOf, recordedClock}
 use Rattle.judging.specs.Judged.{WrongClock, Faultless, Judged}
 use Rattle.judging.specs.Judged.Judged.{byClock, wholly}
 use Rattle.run.specs.declared.RunReading.the-variants as R
@@ -154,7 +154,7 @@ module _ (x : ℕ) where
 
   -- the clock that a record has is the rule's
   abbrev Right : ℕ → ℕ → Type 0
-  Right p k = (i : ℕ) → i < 2 → ClockIs M.desks p k i (u16At (desks x) (placeOf (desks x) p k + 34 + 2 * i))
+  Right p k = (i : ℕ) → i < 2 → ClockIs M.desks p k i (recordedClock (desks x) p k i)
 
   pick : {j l : ℕ} (f : ℕ → ℕ) → ClockIs M.desks j l 0 (f 0) → ClockIs M.desks j l 1 (f 1) → (i : ℕ) → i < 2 → ClockIs M.desks j l i (f i)
   pick f a b zero h = a
@@ -181,7 +181,7 @@ module _ (x : ℕ) where
   not-wrong p k right w =
       let i = w .place in
       let h : i < processes M.desks = subst (λ r. i < processes r) run-is (w .there) in
-      w .wrong (subst (λ r. ClockIs r p k i (u16At (desks x) (placeOf (desks x) p k + 34 + 2 * i))) (sym run-is) (right i h))
+      w .wrong (subst (λ r. ClockIs r p k i (recordedClock (desks x) p k i)) (sym run-is) (right i h))
 
 right-12 : Right 1 1 2
 unfolding desks u16At
