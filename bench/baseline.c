@@ -36,7 +36,8 @@ enum { MOST_RECORDS = LONGEST_FILE / (CLOCK_AT + 2) };
 /* A power of two over twice MOST_RECORDS: a probe always ends at an empty slot, and soon. */
 enum { SLOT_BITS = 12, SLOT_COUNT = 1 << SLOT_BITS };
 
-enum question { SEARCH = 1, CONSISTENT, SATISFIES, MESSAGES };
+/* 6 is the search in two calls, and the search here. */
+enum question { SEARCH = 1, CONSISTENT, SATISFIES, MESSAGES, SHOWN, EACH = 7, RECORD };
 
 enum kind {
     RUN_HEAD = 1,
@@ -786,11 +787,81 @@ static size_t shown_size(struct refusal refusal)
 static void answer_shown(unsigned lent)
 {
     struct refusal refusal = judge_for_search(lent);
+    bool of_a_record = refusal.reason != ACCEPTED && refusal.reason != TOO_LONG && refusal.reason < NO_ROOM;
     size_t size = shown_size(refusal);
-    fputs(size == 0 ? "shown -" : "shown ", stdout);
+    if (of_a_record)
+        printf("shown %s %zu %zu ", refusal.file->name, refusal.place, size);
+    else
+        fputs("shown run 0 0 ", stdout);
+    if (size == 0)
+        putchar('-');
     for (size_t byte = 0; byte < size; byte++)
         printf("%02x", refusal.file->bytes[refusal.place + byte]);
     putchar('\n');
+}
+
+static void answer_each(unsigned lent)
+{
+    struct refusal refusal = judge_run();
+    if (refusal.reason == ACCEPTED)
+        refusal = take_asked_cut();
+    if (refusal.reason == ACCEPTED && lent < channel_count)
+        refusal = refused(&run_file, NO_ROOM, 0);
+    bool is_counted = refusal.reason == ACCEPTED;
+    if (is_counted)
+        puts("counted");
+    else
+        print_refusal(refusal);
+    fputs("places", stdout);
+    for (unsigned place = 0; place < lent; place++)
+        printf(" %u", is_counted && place < channel_count ? (unsigned)in_transit(&channels[place], 0).count
+                                                          : FIRST_PLACE + place);
+    putchar('\n');
+}
+
+/* A record by itself, beside the numbers that the head has. */
+static enum reason judge_alone(const struct record *record, size_t place)
+{
+    bool has_head = run_file.size >= 10;
+    size_t processes = has_head ? u16_at(run_file.bytes + 6) : 0;
+    size_t channels_end = 10 + 10 * (has_head ? (size_t)u16_at(run_file.bytes + 8) : 0);
+    if (place == 0) {
+        enum reason reason = judge_kind(record, RUN_HEAD, 10);
+        if (reason == ACCEPTED && u16_at(record->bytes + BODY_AT) != 1)
+            return WRONG_FORMAT;
+        return reason;
+    }
+    if (place < channels_end)
+        return judge_kind(record, CHANNEL, 10);
+    return record->kind == END ? judge_kind(record, END, 4) : judge_kind(record, STATE, CLOCK_AT + 2 * processes);
+}
+
+static void print_record(const struct record *record)
+{
+    const unsigned char *bytes = record->bytes;
+    if (record->kind == RUN_HEAD)
+        printf("record head %u %u", u16_at(bytes + 6), u16_at(bytes + 8));
+    else if (record->kind == CHANNEL)
+        printf("record channel %u %u %u", u16_at(bytes + 4), u16_at(bytes + 6), u16_at(bytes + 8));
+    else if (record->kind == STATE)
+        printf("record state %u %u %u %lu %lu", u16_at(bytes + 4), u16_at(bytes + 6), u16_at(bytes + 8),
+               (unsigned long)u32_at(bytes + MESSAGE_AT), (unsigned long)u32_at(bytes + STAMP_AT));
+    else
+        fputs("record end", stdout);
+}
+
+static void answer_record(size_t place)
+{
+    struct record record;
+    enum reason reason = place > run_file.size ? CUT_SHORT : read_frame(&run_file, place, &record);
+    if (reason == ACCEPTED)
+        reason = judge_alone(&record, place);
+    if (reason != ACCEPTED) {
+        print_refusal(refused(&run_file, reason, place));
+        return;
+    }
+    print_record(&record);
+    printf(" next %zu\n", place + record.length);
 }
 
 static void answer(unsigned question, unsigned extra)
@@ -809,8 +880,17 @@ static void answer(unsigned question, unsigned extra)
     case MESSAGES:
         answer_messages(extra);
         break;
-    default:
+    case SHOWN:
         answer_shown(lent);
+        break;
+    case EACH:
+        answer_each(lent);
+        break;
+    case RECORD:
+        answer_record(extra);
+        break;
+    default:
+        answer_search(lent);
     }
 }
 

@@ -132,6 +132,15 @@ def refuse_bytes_after(data: bytes, place: int, file: str) -> None:
 
 
 def judge_run(data: bytes) -> Run:
+    run = read_run(data)
+    judge_pairing(run.states)
+    judge_circles(run)
+    judge_clocks(run)
+    return run
+
+
+def read_run(data: bytes) -> Run:
+    """The run with what each record by itself is refused for, and no more."""
     refuse_too_long(data, RUN)
     head = read_record(data, 0, RUN)
     process_count, channel_count = judge_run_head(head)
@@ -143,11 +152,7 @@ def judge_run(data: bytes) -> Run:
         place = record.next_place
     states, place = read_states(data, place, process_count, channels)
     refuse_bytes_after(data, place, RUN)
-    judge_pairing(states)
-    run = Run(process_count, channels, states)
-    judge_circles(run)
-    judge_clocks(run)
-    return run
+    return Run(process_count, channels, states)
 
 
 def judge_run_head(record: Record) -> tuple[int, int]:

@@ -14,7 +14,7 @@ from pathlib import Path
 from typing import Iterator, NamedTuple, Optional
 
 # Public whatever else uses them, as far as they are there.
-PUBLIC = ("checker", "questions", "reader")
+PUBLIC = ("answers", "checker", "questions", "reader")
 
 NAME = re.compile(r"[\w′·-]+(?:\.[\w′·-]+)?")
 USE = re.compile(r"(?:ghost )?use (\S+?)(?:\.\{(.*)\})?(?: as (\w+))?;?$")
@@ -23,6 +23,8 @@ HEAD = re.compile(
     r"(?:pub )?(?:data|record) (?P<type>\S+).*where|(?:unfoldable |abbrev )(?:pub )?(?P<value>\S+) :"
 )
 VARIANTS = re.compile(r"\s+([\w′·-]+(?: [\w′·-]+)*) :")
+# A file of functions that other crates can't name.
+INNER_MODULE = re.compile(r"^mod (\w+);$", re.M)
 CONTRACT = re.compile(
     r'^ *pub (?:extern "C" )?fn (?:(?! *\}).*\n)*?( +(?:requires|ensures) (?:.*\n)*?) *\{$', re.M
 )
@@ -156,8 +158,12 @@ def is_program(root: Path, crate: str, uses: list[str]) -> bool:
 
 def contracts(root: Path, crate: str) -> Iterator[tuple[str, Scope]]:
     """The contract of each public function, with what its names mean."""
-    for path in sorted((root / "crates" / crate / "src").glob("**/*.rt")):
-        text = path.read_text("utf-8")
+    paths = sorted((root / "crates" / crate / "src").glob("**/*.rt"))
+    texts = {path.stem: path.read_text("utf-8") for path in paths}
+    inner = {name for text in texts.values() for name in INNER_MODULE.findall(text)}
+    for name, text in texts.items():
+        if name in inner:
+            continue
         for contract in CONTRACT.findall(text):
             yield contract, scope_of(text.splitlines())
 

@@ -5,6 +5,8 @@ The answers are those of the paper, and of the second program for the longest ru
 
 from __future__ import annotations
 
+import os
+import socket
 import subprocess
 import sys
 from pathlib import Path
@@ -27,7 +29,12 @@ from marked import (  # noqa: E402
 
 FOUR_LINES = "found\nstate 0 2\nstate 1 1\nchannel 0 1\n"
 UNREADABLE_RUN, UNREADABLE_CONDITION = "unreadable run\n", "unreadable cond\n"
+LONGEST_PATH = 4_096
 LONG_FOLDER = "/".join(["a" * 200] * 10)
+
+
+# As grep has it: 0 found, 1 none, 2 where nothing was answered.
+STATUSES = {"found": 0, "none": 1}
 
 
 class Situation(NamedTuple):
@@ -37,6 +44,41 @@ class Situation(NamedTuple):
     words: tuple[str, ...]
     expected: str
     folder: str = "."
+
+    @property
+    def status(self) -> int:
+        return STATUSES.get(self.expected.split()[0], 2)
+
+    @property
+    def files(self) -> tuple[str, str]:
+        """The run's and the condition's name, as the words give them."""
+        if len(self.words) == 2:
+            return self.words[0], self.words[1]
+        folder = f"{self.words[0]}/" if self.words else ""
+        return f"{folder}run.rec", f"{folder}cond.rec"
+
+
+def reasons(top: Path, situation: Situation) -> str:
+    """A line for each file that can't be read: its name, and why."""
+    return "".join(
+        f"{named(name)}: {os.strerror(number)}\n"
+        for name in situation.files
+        for number in error_of(top / situation.folder, name)
+    )
+
+
+def named(name: str) -> str:
+    """A name that is longer than a path can be comes to the program as an empty one."""
+    return name if len(name) < LONGEST_PATH else ""
+
+
+def error_of(folder: Path, name: str) -> list[int]:
+    try:
+        with open(os.path.join(folder, name) if named(name) else "", "rb") as file:
+            file.read(1)
+    except OSError as error:
+        return [error.errno]
+    return []
 
 
 def write(path: Path, data: bytes) -> None:
@@ -167,12 +209,28 @@ def all_situations(top: Path) -> list[Situation]:
     return [*named_files(), *unreadable_files(), *lengths(), *printed(top)]
 
 
-def called(command: list[str], top: Path, situation: Situation) -> subprocess.CompletedProcess:
+class Ended(NamedTuple):
+    """How a command ended: each of its writes to standard output, and what else it left."""
+
+    writes: list[bytes]
+    errors: bytes
+    status: int
+
+
+def called(command: list[str], top: Path, situation: Situation) -> Ended:
     """How the command ends in this situation, and what it prints."""
-    folder = top / situation.folder
-    return subprocess.run([*command, *situation.words], cwd=folder, capture_output=True)
+    # Such a socket hands on each write as a piece of its own; a pipe joins them.
+    ours, theirs = socket.socketpair(socket.AF_UNIX, socket.SOCK_SEQPACKET)
+    with ours, theirs:
+        words = [*command, *situation.words]
+        folder = top / situation.folder
+        done = subprocess.run(words, cwd=folder, stdout=theirs, stderr=subprocess.PIPE)
+        theirs.close()
+        writes = list(iter(lambda: ours.recv(65_536), b""))
+    return Ended(writes, done.stderr, done.returncode)
 
 
-def is_answer(done: subprocess.CompletedProcess, situation: Situation) -> bool:
-    expected = (situation.expected.encode(), b"", 0)
-    return (done.stdout, done.stderr, done.returncode) == expected
+def is_answer(done: Ended, top: Path, situation: Situation) -> bool:
+    """The answer is there in one write, so that no reader sees half of it."""
+    said = reasons(top, situation).encode()
+    return done == Ended([situation.expected.encode()], said, situation.status)

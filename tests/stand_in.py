@@ -31,6 +31,12 @@ MISTAKES = {
     "no line end after the last line": "marked case 6",
     "the counts left out": "no word",
     "the answer on standard error": "marked case 10",
+    "status 0 for none": "marked case 6",
+    "status 1 for a refusal": "marked case 10",
+    "status 0 for a file that can't be read": "the run missing",
+    "no reason why a file can't be read": "the condition missing",
+    "a reason for the run alone": "both missing",
+    "a write for each line": "two files",
 }
 
 
@@ -50,6 +56,28 @@ def read_by(mistake: str, path: str) -> Optional[bytes]:
     if mistake == "a long file unreadable":
         return None
     return data[:LONGEST_FILE] if mistake == "a long file cut to 65,535 bytes" else data
+
+
+def tell_reasons(mistake: str, paths: tuple[str, str]) -> None:
+    """A line on standard error for each file that can't be read."""
+    for path in paths[: 1 if mistake == "a reason for the run alone" else 2]:
+        name = path.removeprefix("./") if len(path) < 4_096 else ""
+        try:
+            with open(name, "rb") as file:
+                file.read(1)
+        except OSError as error:
+            if mistake != "no reason why a file can't be read":
+                print(f"{name}: {os.strerror(error.errno)}", file=sys.stderr)
+
+
+def status_of(mistake: str, first: str) -> int:
+    if first == "none":
+        return 0 if mistake == "status 0 for none" else 1
+    if first.startswith("refused") and mistake == "status 1 for a refusal":
+        return 1
+    if first.startswith("unreadable") and mistake == "status 0 for a file that can't be read":
+        return 0
+    return 0 if first == "found" else 2
 
 
 def judged(run: bytes, condition: bytes) -> list[str]:
@@ -80,15 +108,21 @@ def main(arguments: list[str]) -> int:
     if len(words) > 2:
         print("usage: stand_in.py MISTAKE [FOLDER | RUN COND]", file=sys.stderr)
         return 2
-    lines = lines_of(mistake, *paths_of(mistake, words))
+    paths = paths_of(mistake, words)
+    tell_reasons(mistake, paths)
+    lines = lines_of(mistake, *paths)
+    status = status_of(mistake, lines[0])
     if mistake == "the counts left out":
         lines = [line for line in lines if not line.startswith("channel")]
     text = "".join(line + "\n" for line in lines)
     if mistake == "no line end after the last line":
         text = text[:-1]
     stream = sys.stderr if mistake == "the answer on standard error" else sys.stdout
-    stream.write(text)
-    return 0
+    pieces = text.splitlines(keepends=True) if mistake == "a write for each line" else [text]
+    for piece in pieces:
+        stream.write(piece)
+        stream.flush()
+    return status
 
 
 if __name__ == "__main__":

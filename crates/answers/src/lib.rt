@@ -1,101 +1,119 @@
-// The lines that the programs print on standard output.
+// The lines of an answer, made in a lent buffer. What they are is said in `specs/Lines.antt`. Each call first has the lines made where there is no room,
+// which tells how long they are: so nothing is written into a buffer that is too short.
+pub mod writing;
+
+use crate::writing::number_line;
+use crate::writing::pair_line;
+use crate::writing::row_lines;
+use crate::writing::text;
 use checker::Answer;
-use libc::STDOUT_FILENO;
 use questions::Count;
 use questions::Verdict;
 use record::File;
 use record::Refusal;
-use record::reading::head_of;
-ghost use Prim.Native.Nat.{_≤_};
+ghost use Prim.Native.Nat.{min};
+ghost use mathlib.Core.Path.{_≡_};
 ghost use lib.ListN.{length};
+ghost use Rattle.answers.specs.Stored.{Put};
+ghost use Rattle.answers.specs.Lines.{answerLines, countLines, foundLines, refusedLine, verdictLines};
+ghost use Rattle.answers.specs.Made.{MadeOf};
 
-pub fn text(words: &[u8]) {
-    io::write_all(STDOUT_FILENO, words);
+// How many bytes the lines have that stand at the front of the buffer, or that it is too short and as it was.
+pub enum Made {
+    Lines(usize),
+    TooShort,
 }
 
-// ` 7`: a number after a word.
-pub fn spaced(n: usize) {
-    text(b" ");
-    io::print_decimal(STDOUT_FILENO, n as u64);
-}
-
-// `count 7`
-fn number_line(word: &[u8], n: usize) {
-    text(word);
-    spaced(n);
-    text(b"\n");
-}
-
-// `state 0 2`
-fn pair_line(word: &[u8], a: usize, b: usize) {
-    text(word);
-    spaced(a);
-    spaced(b);
-    text(b"\n");
-}
-
-pub fn refused(refusal: Refusal) {
+fn refused(refusal: Refusal, buffer: &mut [u8]) -> usize
+    ensures { λ r. ⌜ Put (refusedLine refusal) 0 r (now (buffer .entry)) (now (buffer .exit)) ⌝ }
+{
+    let number = refusal.number as usize;
+    let place = refusal.place;
     let file = refusal.file;
     match file {
-        File::Run => pair_line(b"refused run", refusal.number as usize, refusal.place),
-        File::Condition => pair_line(b"refused cond", refusal.number as usize, refusal.place),
+        File::Run => pair_line(b"refused run", number, place, 0, buffer),
+        File::Condition => pair_line(b"refused cond", number, place, 0, buffer),
     }
 }
 
-fn place_line(word: &[u8], place: usize, number: u16) {
-    pair_line(word, place, number as usize);
+fn found(cut: &[u16], row: &[u16], buffer: &mut [u8]) -> usize
+    ensures { λ r. ⌜ Put (foundLines (now (cut .entry)) (now (row .entry))) 0 r (now (buffer .entry)) (now (buffer .exit)) ⌝ }
+{
+    let states = text(b"found\n", 0, buffer);
+    let channels = row_lines(b"state", cut, states, buffer);
+    row_lines(b"channel", row, channels, buffer)
 }
 
-// A line for each place: a process and its state, or a channel and its messages.
-fn lines(word: &[u8], row: &[u16]) {
-    let mut i: usize = 0;
-    while i < row.len() {
-        place_line(word, i, row[i]);
-        i += 1;
+fn put_answer(answer: Answer, cut: &[u16], row: &[u16], buffer: &mut [u8]) -> usize
+    ensures { λ r. ⌜ Put (answerLines answer (now (cut .entry)) (now (row .entry))) 0 r (now (buffer .entry)) (now (buffer .exit)) ⌝ }
+{
+    match answer {
+        Answer::Found => found(cut, row, buffer),
+        Answer::None => text(b"none\n", 0, buffer),
+        Answer::Refused(refusal) => refused(refusal, buffer),
     }
 }
 
-// How many of the lent places are filled where n numbers were written.
-pub fn filled(n: u16, places: &[u16]) -> usize
-    ensures { λ r. ⌜ r ≤ length (now (places .entry)) ⌝ }
+fn put_verdict(verdict: Verdict, buffer: &mut [u8]) -> usize
+    ensures { λ r. ⌜ Put (verdictLines verdict) 0 r (now (buffer .entry)) (now (buffer .exit)) ⌝ }
+{
+    match verdict {
+        Verdict::Yes => text(b"yes\n", 0, buffer),
+        Verdict::No => text(b"no\n", 0, buffer),
+        Verdict::Refused(refusal) => refused(refusal, buffer),
+    }
+}
+
+fn put_count(count: Count, buffer: &mut [u8]) -> usize
+    ensures { λ r. ⌜ Put (countLines count) 0 r (now (buffer .entry)) (now (buffer .exit)) ⌝ }
+{
+    match count {
+        Count::Messages(n) => number_line(b"count", n, 0, buffer),
+        Count::Refused(refusal) => refused(refusal, buffer),
+    }
+}
+
+// The answer of the search with the state of each process at the cut, and the number of messages on each channel there.
+pub fn answer(answer: Answer, cut: &[u16], row: &[u16], buffer: &mut [u8]) -> Made
+    ensures { λ r. ⌜ MadeOf (answerLines answer (now (cut .entry)) (now (row .entry))) (now (buffer .entry)) (now (buffer .exit)) r ⌝ }
+{
+    let mut nowhere = [0u8; 0];
+    let n = put_answer(answer, cut, row, &mut nowhere);
+    if buffer.len() < n {
+        return Made::TooShort;
+    }
+    put_answer(answer, cut, row, buffer);
+    Made::Lines(n)
+}
+
+pub fn verdict(verdict: Verdict, buffer: &mut [u8]) -> Made
+    ensures { λ r. ⌜ MadeOf (verdictLines verdict) (now (buffer .entry)) (now (buffer .exit)) r ⌝ }
+{
+    let mut nowhere = [0u8; 0];
+    let n = put_verdict(verdict, &mut nowhere);
+    if buffer.len() < n {
+        return Made::TooShort;
+    }
+    put_verdict(verdict, buffer);
+    Made::Lines(n)
+}
+
+pub fn count(count: Count, buffer: &mut [u8]) -> Made
+    ensures { λ r. ⌜ MadeOf (countLines count) (now (buffer .entry)) (now (buffer .exit)) r ⌝ }
+{
+    let mut nowhere = [0u8; 0];
+    let n = put_count(count, &mut nowhere);
+    if buffer.len() < n {
+        return Made::TooShort;
+    }
+    put_count(count, buffer);
+    Made::Lines(n)
+}
+
+// How many numbers of a row stand there where n were to be written.
+pub fn filled(n: u16, row: &[u16]) -> usize
+    ensures { λ r. ⌜ r ≡ min n (length (now (row .entry))) ⌝ }
 {
     let all = n as usize;
-    if all < places.len() {
-        all
-    } else {
-        places.len()
-    }
-}
-
-fn found(run: &[u8], places: &[u16], row: &[u16]) {
-    let head = head_of(run);
-    let n = filled(head.processes, places);
-    let m = filled(head.channels, row);
-    text(b"found\n");
-    lines(b"state", &places[..n]);
-    lines(b"channel", &row[..m]);
-}
-
-// The answer of the search, which wrote the cut into these places, and the number of messages on each channel into this row.
-pub fn answer(run: &[u8], places: &[u16], row: &[u16], answer: Answer) {
-    match answer {
-        Answer::Found => found(run, places, row),
-        Answer::None => text(b"none\n"),
-        Answer::Refused(refusal) => refused(refusal),
-    }
-}
-
-pub fn verdict(verdict: Verdict) {
-    match verdict {
-        Verdict::Yes => text(b"yes\n"),
-        Verdict::No => text(b"no\n"),
-        Verdict::Refused(refusal) => refused(refusal),
-    }
-}
-
-pub fn count(count: Count) {
-    match count {
-        Count::Messages(n) => number_line(b"count", n),
-        Count::Refused(refusal) => refused(refusal),
-    }
+    if all < row.len() { all } else { row.len() }
 }

@@ -1,72 +1,46 @@
 // Reads a run and a condition, and prints the first cut of the run at which the condition holds.
+use answers::Made;
+use checker::Answer;
+use files::Got;
+use files::read_file;
+use files::read_word;
+use libc::STDOUT_FILENO;
+use record::reading::head_of;
 ghost use Prim.Native.Nat.{_≤_};
 ghost use lib.ListN.{length};
 
-// How many bytes were read, and whether every read went well.
-struct Got {
-    whole: bool,
-    n: usize,
-}
-
-fn read_some(file: i32, buffer: &mut [u8]) -> Got
-    ensures { λ r. ⌜ r .n ≤ length (now (buffer .entry)) ⌝ }
-{
-    let got = libc::read(file, buffer);
-    if got < 0 {
-        return Got { whole: false, n: 0 };
-    }
-    let n = io::count(got, buffer);
-    Got { whole: true, n }
-}
-
-// Reads until the buffer is full or the file ends. `io::read_full` doesn't tell a failed read from the end.
-fn read_all(file: i32, buffer: &mut [u8]) -> Got
-    ensures { λ r. ⌜ r .n ≤ length (now (buffer .entry)) ⌝ }
-{
-    let mut at: usize = 0;
-    while at < buffer.len() {
-        let got = read_some(file, &mut buffer[at..]);
-        if !got.whole {
-            return Got { whole: false, n: 0 };
-        }
-        if got.n == 0 {
-            break;
-        }
-        at = at + got.n;
-    }
-    Got { whole: true, n: at }
-}
-
-fn read_file(name: &[u8], buffer: &mut [u8]) -> Got
-    ensures { λ r. ⌜ r .n ≤ length (now (buffer .entry)) ⌝ }
-{
-    let file = os::open_read(name);
-    if file < 0 {
-        return Got { whole: false, n: 0 };
-    }
-    let got = read_all(file, buffer);
-    libc::close(file);
-    got
-}
-
-// The file that the command line names at this place, or else the one of this name in the current folder. A word that is longer than a path can be
-// comes as an empty one, which no file has.
+// The file that the command line names at this place, or else the one of this name in the current folder.
 fn read_named(word: usize, name: &[u8], buffer: &mut [u8]) -> Got
     ensures { λ r. ⌜ r .n ≤ length (now (buffer .entry)) ⌝ }
 {
     if os::arg_count() < 3 {
         return read_file(name, buffer);
     }
-    let mut path = io::buffer();
-    let n = os::arg(word, &mut path);
-    read_file(&path[..n], buffer)
+    read_word(word, buffer)
+}
+
+fn text(words: &[u8]) {
+    io::write_all(STDOUT_FILENO, words);
+}
+
+// The lines go out in one write, so that no reader sees half an answer. 512 bytes are always enough (`theorems/proofs/Enough.antt`).
+fn print(answer: Answer, cut: &[u16], row: &[u16]) {
+    let mut lines = [0u8; 512];
+    let made = answers::answer(answer, cut, row, &mut lines);
+    let Made::Lines(n) = made else {
+        return;
+    };
+    text(&lines[..n]);
 }
 
 fn judge(run: &[u8], cond: &[u8]) {
     let mut places = [0u16; 8];
     let mut row = [0u16; 16];
     let answer = checker::finding::first_cut_listed(run, cond, &mut places, &mut row);
-    answers::answer(run, &places, &row, answer);
+    let head = head_of(run);
+    let n = answers::filled(head.processes, &places);
+    let m = answers::filled(head.channels, &row);
+    print(answer, &places[..n], &row[..m]);
 }
 
 // One byte more than a file may have, so that a longer one is seen to be too long.
@@ -76,11 +50,11 @@ fn main() {
     let got_run = read_named(1, b"run.rec", &mut run);
     let got_cond = read_named(2, b"cond.rec", &mut cond);
     if !got_run.whole {
-        answers::text(b"unreadable run\n");
+        text(b"unreadable run\n");
         return;
     }
     if !got_cond.whole {
-        answers::text(b"unreadable cond\n");
+        text(b"unreadable cond\n");
         return;
     }
     let n = got_run.n;

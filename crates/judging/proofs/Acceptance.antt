@@ -1,9 +1,8 @@
--- What follows from a run's acceptance alone: it is known to the model, its pairing has no fault exactly if it is, and the clocks that it has are the rule's.
+-- What follows from a run's acceptance alone: it is known to the model, and its pairing has no fault exactly if it is.
 use mathlib.Core.Path.{_≡_, refl, sym, ap, _∙_, subst}
 use mathlib.Core.Bool.{Bool, true, false}
 use mathlib.Core.List.{List}
 use Prim.Native.Nat.{ℕ}
-use native.Mathlib.Decide.{ℕ-discrete}
 use native.Mathlib.Omega.{arith}
 use lib.Dec.{T}
 use Rattle.model.proofs.Numbers.{never}
@@ -11,19 +10,16 @@ use Rattle.model.specs.declared.Message.{Message}
 use Rattle.model.specs.declared.Event.the-variants.{Receive}
 use Rattle.model.specs.Run.{Run, count, channel, into, IsState, sending, receiving, paired, Paired}
 use Rattle.model.specs.Known.{Known}
-use Rattle.model.specs.Clocks.{Clocks}
-use Rattle.model.specs.Cut.{ClockIs, someUpTo}
+use Rattle.model.specs.Cut.{someUpTo}
 use Rattle.model.proofs.Lists.{some-at, at-some}
 use Rattle.model.proofs.Pairing.{view, from-side, sent-there, received-there}
 use Rattle.model.proofs.Messages.{sending-send, receiving-receive}
-use Rattle.model.proofs.Order.{clock-unique}
-use Rattle.model.proofs.HasClock.{has-clock}
 use Rattle.record.specs.declared.Head.{Head}
 use Rattle.run.specs.declared.RunReading.{RunReading}
 use Rattle.run.specs.declared.RunReading.the-variants.{Accepted}
 use Rattle.run.specs.Read.{readOf}
 use Rattle.record.specs.Pass.Read.{accepted}
-use Rattle.run.specs.Said.{statesOf, runIn, recordedClock}
+use Rattle.run.specs.Said.{statesOf, runIn}
 use Rattle.judging.specs.Judged.{Judged, Unpaired, Faultless}
 use Rattle.judging.specs.Judged.Judged.{byPass, byPairing, byCircle, byClock, wholly}
 use Rattle.judging.specs.Judged.Unpaired.{secondSend, secondReceive, noSend}
@@ -100,17 +96,3 @@ accepted-known (byPairing x d w) e = never (cc)
 accepted-known {s} (byCircle x d n w) e = paired-known s d n
 accepted-known {s} (byClock x d n m w) e = paired-known s d n
 accepted-known {s} (wholly d n m o) e = paired-known s d n
-
--- each recorded clock number is the rule's: the state has a clock, and another number would be refused
-pub accepted-clocks : {s : List ℕ} {a : RunReading} {h : Head} → Judged s a → a ≡ Accepted h → Clocks (runIn s) (recordedClock s)
-unfolding Clocks
-accepted-clocks (byPass x d) e = never (cc)
-accepted-clocks (byPairing x d w) e = never (cc)
-accepted-clocks (byCircle x d n w) e = never (cc)
-accepted-clocks (byClock x d n m w) e = never (cc)
-accepted-clocks {s} (wholly d n m o) e = λ j l i t p.
-    let (k, w) = has-clock (runIn s) (paired-known s d n) m j l t i in
-    elim (ℕ-discrete (recordedClock s j l i) k) [
-      | yes z ↦ subst (ClockIs (runIn s) j l i) (sym z) w
-      | no z ↦ absurd (o j l t (record { place = i; there = p; wrong = λ c. z (clock-unique c w) }))
-    ]

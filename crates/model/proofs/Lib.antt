@@ -5,7 +5,6 @@ pub mod Pairing
 pub mod Order
 pub mod Circle
 pub mod Clock
-pub mod HasClock
 pub mod Transit
 pub mod Lattice
 pub mod Past

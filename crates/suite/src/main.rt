@@ -6,7 +6,10 @@ use crate::input::read_numbers;
 use crate::input::read_part;
 
 mod input;
+mod printing;
+mod records;
 mod reply;
+mod shown;
 
 // Whether the rest of the case was there.
 fn is_answered(case: Case, run: &mut [u8], cond: &mut [u8], cut: &[u16]) -> bool {
@@ -30,7 +33,7 @@ fn is_whole(case: Case, run: &mut [u8], cond: &mut [u8]) -> bool {
 
 fn said(whole: bool) -> bool {
     if !whole {
-        answers::text(b"cut short\n");
+        printing::text(b"cut short\n");
     }
     whole
 }

@@ -4,16 +4,17 @@ use mathlib.Core.Logic.{inr, _↔_}
 use mathlib.Core.Bool.{true, false}
 use mathlib.Core.List.{List, [], _∷_}
 use Prim.Native.Nat.{ℕ, _+_, _≤_}
+use native.Mathlib.Decide.{ℕ-discrete}
 use native.Mathlib.Omega.{arith}
 use lib.ListN.{length, replicate, length-append}
 use Rattle.model.proofs.Numbers.{never}
-use Rattle.model.specs.Cut.{IsCut, Consistent, ByMessage, inTransit}
+use Rattle.model.specs.Cut.{ClockIs, IsCut, Consistent, ByMessage, inTransit}
 use Rattle.model.specs.Clause.{Clause, First}
 use Rattle.model.specs.Clocks.{Clocks, ByClock}
 use Rattle.model.specs.Sent.{sentUpTo, receivedUpTo}
 use Rattle.model.proofs.Conserved.{conserved}
 use Rattle.model.proofs.Lattice.{first-unique}
-use Rattle.model.proofs.Order.{consistent-by-message, consistent-by-clock}
+use Rattle.model.proofs.Order.{clock-unique, consistent-by-message, consistent-by-clock}
 use Rattle.model.proofs.Search.{ones, first-ones}
 use Rattle.record.specs.Bytes.{u16At}
 use Rattle.record.specs.Record.{headOf}
@@ -21,8 +22,12 @@ use Rattle.record.specs.Pass.Read.{accepted}
 use Rattle.record.specs.declared.Head.{Head}
 use Rattle.record.proofs.Pass.{accepted-holds}
 use Rattle.run.specs.Said.{runIn, recordedClock}
+use Rattle.run.specs.declared.RunReading.{RunReading}
+use Rattle.run.specs.declared.RunReading.the-variants.{Accepted}
+use Rattle.judging.specs.Judged.{Judged}
+use Rattle.judging.specs.Judged.Judged.{byPass, byPairing, byCircle, byClock, wholly}
 use Rattle.judging.specs.Accepted.{RunAccepted}
-use Rattle.judging.proofs.Acceptance.{accepted-clocks}
+use Rattle.judging.proofs.Acceptance.{accepted-known}
 use Rattle.condition.specs.declared.Item.{Item}
 use Rattle.condition.specs.Items.{stepAt}
 use Rattle.condition.specs.Judge.{judgeNo}
@@ -35,7 +40,22 @@ use Rattle.checker.specs.declared.Answer.{Answer}
 use Rattle.checker.specs.declared.Answer.the-variants as A
 use Rattle.checker.specs.Answered.{Both, Answered}
 use Rattle.theorems.specs.Numbers.{clauseCount}
+use Rattle.theorems.proofs.HasClock.{has-clock}
 use Rattle.theorems.proofs.Demands.{cutIn, known, size, named, found-exactly}
+
+-- each recorded clock number is the rule's: the state has a clock, and another number would be refused
+accepted-clocks : {s : List ℕ} {a : RunReading} {h : Head} → Judged s a → a ≡ Accepted h → Clocks (runIn s) (recordedClock s)
+unfolding Clocks
+accepted-clocks (byPass x d) e = never (cc)
+accepted-clocks (byPairing x d w) e = never (cc)
+accepted-clocks (byCircle x d n w) e = never (cc)
+accepted-clocks (byClock x d n m w) e = never (cc)
+accepted-clocks {s} (wholly d n m o) e = λ j l i t p.
+    let (k, w) = has-clock (runIn s) (accepted-known (wholly d n m o) e) m j l t i in
+    elim (ℕ-discrete (recordedClock s j l i) k) [
+      | yes z ↦ subst (ClockIs (runIn s) j l i) (sym z) w
+      | no z ↦ absurd (o j l t (record { place = i; there = p; wrong = λ c. z (clock-unique c w) }))
+    ]
 
 module _ {s : List ℕ} (v : RunAccepted s) where
   -- "13 clock: clock number other than the rule's": each clock number of the file is the rule's

@@ -28,6 +28,9 @@ use Rattle.cut.specs.Listing.{Wrote}
 use Rattle.checker.specs.Answered.{Answered, AnsweredListed}
 use Rattle.checker.specs.Answered.Answered.{runRefused, condRefused, few, none, tooEarly, found}
 use Rattle.questions.specs.Questions.{AskedConsistent, AskedMessages, AskedEach, AskedSatisfies}
+use Rattle.answers.specs.declared.Made.{Made}
+use Rattle.answers.specs.Made.{MadeOf}
+use Rattle.answers.specs.Made.MadeOf.{made, tooShort}
 
 -- the lent places are determined by the cut
 pub wrote-one : {cut lent a b : List ℕ} → Wrote cut lent a → Wrote cut lent b → a ≡ b
@@ -181,3 +184,10 @@ module _ {s : List ℕ} where
   satisfies-one (AskedSatisfies.no j d i t) (AskedSatisfies.notCut k e m) = absurd (m i)
   satisfies-one (AskedSatisfies.no j d i t) (AskedSatisfies.yes k e u) = absurd (t u)
   satisfies-one (AskedSatisfies.no j d i t) (AskedSatisfies.no k e l u) = refl
+
+-- lines made in a lent buffer, of an answer of any kind
+pub made-one : {lines buffer b c : List ℕ} {r t : Made} → MadeOf lines buffer b r → MadeOf lines buffer c t → (r ≡ t) × (b ≡ c)
+made-one (made h e) (made h′ e′) = (refl, e ∙ sym e′)
+made-one (made h e) (tooShort h′ e′) = absurd (omega arith)
+made-one (tooShort h e) (made h′ e′) = absurd (omega arith)
+made-one (tooShort h e) (tooShort h′ e′) = (refl, e ∙ sym e′)

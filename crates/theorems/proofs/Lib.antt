@@ -2,5 +2,8 @@ pub mod Determined
 pub mod Demands
 pub mod Marked
 pub mod Refusals
+pub mod Different
+pub mod Enough
 pub mod Agreement
 pub mod Numbers
+pub mod HasClock

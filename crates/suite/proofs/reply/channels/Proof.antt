@@ -1,11 +1,10 @@
 use borrow.Author.Needs.{needs}
-use mathlib.Core.Path.{sym}
-use lib.Seq.{length-take-le}
+use Rattle.answers.proofs.Fronts.{filled-front}
 use Rattle.suite.proofs.reply.channels.Statement.{statement}
 use Rattle.suite.proofs.reply.channels.Tie as tie
 
 slice-aggregate-messages-on-each : tie.Need-slice-aggregate-messages-on-each
-slice-aggregate-messages-on-each c = sym (length-take-le _ _ (c .before .filled .ensures))
+slice-aggregate-messages-on-each c = filled-front _ _ (c .before .filled .ensures)
 
 pub channels-spec : {M : Type 1} → statement M
 channels-spec =

@@ -1,0 +1,5 @@
+pub mod Putting
+pub mod Decimal
+pub mod Fronts
+pub mod Reading
+pub mod Lengths

@@ -1,0 +1,3 @@
+pub mod Stored
+pub mod Lines
+pub mod Made
