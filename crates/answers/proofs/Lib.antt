@@ -1,5 +1,2 @@
-pub mod Putting
-pub mod Decimal
 pub mod Fronts
-pub mod Reading
-pub mod Lengths
+pub mod Calls

@@ -1,3 +1,2 @@
-pub mod Stored
 pub mod Lines
 pub mod Made

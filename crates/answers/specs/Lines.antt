@@ -1,11 +1,6 @@
 -- The lines of an answer, as bytes.
-use mathlib.Core.Bool.{cond}
-use mathlib.Core.List.{List, [], _∷_, _++_}
-use Prim.Native.Char.{code}
-use Prim.Native.Nat.{ℕ, zero, suc, _+_, _/_, _%_}
-use Prim.Native.String as S
-use Prim.Native.String.{String}
-use lib.Dec.{ltb}
+use mathlib.Core.List.{List, _++_}
+use Prim.Native.Nat.{ℕ}
 use Rattle.record.specs.declared.File.{File}
 use Rattle.record.specs.declared.File.the-variants.{Run, Condition}
 use Rattle.record.specs.declared.Refusal.{Refusal}
@@ -15,33 +10,7 @@ use Rattle.questions.specs.declared.Verdict.{Verdict}
 use Rattle.questions.specs.declared.Verdict.the-variants as W
 use Rattle.questions.specs.declared.Count.{Count}
 use Rattle.questions.specs.declared.Count.the-variants as C
-
-unfoldable pub bytes : String → List ℕ
-bytes S.[] = []
-bytes (S._∷_ c s) = code c ∷ bytes s
-
--- the digits of n, at most f of them: the last is n % 10, and the others are those of n / 10
-unfoldable pub digits : ℕ → ℕ → List ℕ
-digits zero n = []
-digits (suc f) n = cond (ltb n 10) ((48 + n) ∷ []) (digits f (n / 10) ++ ((48 + n % 10) ∷ []))
-
--- a number with no zero ahead: n + 1 digits are enough for n
-unfoldable pub decimal : ℕ → List ℕ
-decimal n = digits (suc n) n
-
-unfoldable pub spaced : ℕ → List ℕ
-spaced n = bytes " " ++ decimal n
-
-unfoldable pub numberLine : List ℕ → ℕ → List ℕ
-numberLine word n = word ++ spaced n ++ bytes "\n"
-
-unfoldable pub pairLine : List ℕ → ℕ → ℕ → List ℕ
-pairLine word a b = word ++ spaced a ++ spaced b ++ bytes "\n"
-
--- a line for each number of a row, the first of which has the number i
-unfoldable pub rowLines : List ℕ → ℕ → List ℕ → List ℕ
-rowLines word i [] = []
-rowLines word i (n ∷ row) = pairLine word i n ++ rowLines word (suc i) row
+use Rattle.writing.specs.Text.{bytes, numberLine, pairLine, rowLines}
 
 unfoldable pub refusedWord : File → List ℕ
 refusedWord Run = bytes "refused run"

@@ -1,20 +1,18 @@
 // The lines of an answer, made in a lent buffer. What they are is said in `specs/Lines.antt`. Each call first has the lines made where there is no room,
 // which tells how long they are: so nothing is written into a buffer that is too short.
-pub mod writing;
-
-use crate::writing::number_line;
-use crate::writing::pair_line;
-use crate::writing::row_lines;
-use crate::writing::text;
 use checker::Answer;
 use questions::Count;
 use questions::Verdict;
 use record::File;
 use record::Refusal;
+use writing::number_line;
+use writing::pair_line;
+use writing::row_lines;
+use writing::text;
 ghost use Prim.Native.Nat.{min};
 ghost use mathlib.Core.Path.{_≡_};
 ghost use lib.ListN.{length};
-ghost use Rattle.answers.specs.Stored.{Put};
+ghost use Rattle.writing.specs.Stored.{Put};
 ghost use Rattle.answers.specs.Lines.{answerLines, countLines, foundLines, refusedLine, verdictLines};
 ghost use Rattle.answers.specs.Made.{MadeOf};
 

@@ -13,10 +13,10 @@ use Rattle.record.specs.declared.Refusal.{Refusal}
 use Rattle.run.specs.Said.{runIn}
 use Rattle.run.specs.declared.RunReading.the-variants as R
 use Rattle.run.proofs.Listed.{ok, processes-are}
-use Rattle.judging.specs.Judged.{Judged}
-use Rattle.judging.specs.Accepted.{RunAccepted}
-use Rattle.judging.specs.Told.{Told}
-use Rattle.judging.proofs.Once.{judged-one}
+use Rattle.judged.specs.Judged.{Judged}
+use Rattle.judged.specs.Accepted.{RunAccepted}
+use Rattle.judged.specs.Told.{Told}
+use Rattle.judged.proofs.Once.{judged-one}
 use Rattle.condition.specs.Known.{clausesFor}
 use Rattle.cut.specs.Listing.{onEach, Wrote}
 use Rattle.checker.specs.declared.Answer.{Answer}

@@ -12,8 +12,8 @@ use Rattle.record.specs.Refusal.Reason.{noRoom, early}
 use Rattle.record.specs.declared.File.the-variants.{Run}
 use Rattle.record.specs.declared.Refusal.{Refusal}
 use Rattle.run.specs.Said.{runIn}
-use Rattle.judging.specs.Judged.{Judged}
-use Rattle.judging.specs.Accepted.{RunAccepted}
+use Rattle.judged.specs.Judged.{Judged}
+use Rattle.judged.specs.Accepted.{RunAccepted}
 use Rattle.run.specs.declared.RunReading.the-variants as R
 use Rattle.condition.specs.Read.{readOf, clausesIn}
 use Rattle.record.specs.Pass.Read.{refused}

@@ -6,7 +6,7 @@ use lib.ListN.{length, replicate}
 use Rattle.model.specs.Run.{processes}
 use Rattle.record.specs.Record.{headOf}
 use Rattle.run.specs.Said.{runIn}
-use Rattle.judging.specs.Accepted.{RunAccepted}
+use Rattle.judged.specs.Accepted.{RunAccepted}
 use Rattle.search.specs.Prepared.{Prepared}
 
 -- what the search is given: an accepted run, an accepted condition, a row of ones to move in, and a lent place for each process

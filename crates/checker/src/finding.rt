@@ -17,7 +17,7 @@ use search::Outcome;
 use search::eliminate::search;
 ghost use Prim.Native.Nat.{_≤_};
 ghost use lib.ListN.{length};
-ghost use Rattle.judging.specs.Told.{Told};
+ghost use Rattle.judged.specs.Told.{Told};
 ghost use Rattle.search.specs.Prepared.{Prepared};
 ghost use Rattle.checker.specs.Answered.{Answered, AnsweredListed};
 ghost use Rattle.checker.specs.Inner.{Searching};

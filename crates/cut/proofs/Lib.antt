@@ -1,9 +1,4 @@
-pub mod Signs
-pub mod Stored
-pub mod Partner
-pub mod Between
-pub mod Passed
-pub mod Writing
 pub mod First
 pub mod Low
 pub mod Received
+pub mod Writing

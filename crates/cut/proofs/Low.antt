@@ -19,7 +19,7 @@ use Rattle.run.specs.Index.{IndexHolds}
 use Rattle.cut.specs.declared.HasToMove.the-variants.{Nobody, Process}
 use Rattle.cut.specs.Clocks.{ifBehind, behindOf, tooLow, InTable}
 use Rattle.cut.proofs.First.{first-nobody, first-found}
-use Rattle.cut.proofs.Stored.{processes-few, states-few}
+use Rattle.transit.proofs.Stored.{processes-few, states-few}
 
 module _ (clock : ℕ → ℕ → ℕ → ℕ) (cut : List ℕ) where
   -- process i is behind the clock of j's chosen state

@@ -1,9 +1,9 @@
 // Rows of numbers written into the first lent places: a cut, and how many messages are on each channel there.
-use crate::transit::count_on;
+use transit::count_on;
 ghost use Prim.Native.Nat.{_≤_};
 ghost use lib.ListN.{length};
 ghost use Rattle.run.specs.Said.{runIn};
-ghost use Rattle.cut.specs.Asked.{Countable};
+ghost use Rattle.transit.specs.Asked.{Countable};
 ghost use Rattle.cut.specs.Listing.{Wrote, onEach};
 
 pub fn write(row: &[u16], lent: &mut [u16])

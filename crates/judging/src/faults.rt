@@ -1,9 +1,9 @@
 // The first record in file order among the first faulty states of the processes.
-use crate::FirstFault;
+use judged::FirstFault;
 use run::index::place_of;
 ghost use mathlib.Core.Path.{_≡_};
 ghost use Prim.Native.Nat.{ℕ, _+_, _<_};
-ghost use Rattle.judging.specs.Firsts.{Candidate, Earliest, lowerOf};
+ghost use Rattle.judged.specs.Firsts.{Candidate, Earliest, lowerOf};
 
 // The lower of a place and the one so far.
 fn lower(so_far: FirstFault, place: usize) -> FirstFault

@@ -1,9 +1,9 @@
 // The judging of a whole run: the pass, then 11, 12 and 13 over all records, each at its first record in file order.
-use crate::FirstFault;
 use crate::faults::earliest;
-use crate::order::clock_faults;
-use crate::order::order_all;
-use crate::pairing::first_unpaired;
+use judged::FirstFault;
+use order::clock_faults;
+use order::order_all;
+use pairing::pair_all;
 use record::File;
 use record::Head;
 use record::reasons::CIRCLE;
@@ -18,8 +18,18 @@ ghost use Prim.Native.Nat.{_≤_};
 ghost use lib.ListN.{replicate};
 ghost use Rattle.record.specs.Record.{headOf};
 ghost use Rattle.run.specs.Index.{Listed, Matched, Fresh, indexSize, partnersPart};
-ghost use Rattle.judging.specs.Judged.{Judged};
-ghost use Rattle.judging.specs.Inner.{Clocked, nextOf, Undone, ProcessRoom, CircleJudged, ClockJudged, Ready};
+ghost use Rattle.judged.specs.Judged.{Judged};
+ghost use Rattle.judged.specs.Inner.{NewlyListed, PairingJudged, Clocked, nextOf, Undone, ProcessRoom, CircleJudged, ClockJudged, Ready};
+
+// The first record in file order that is a second send or receive, or a receive with no send; where there is none, the partners.
+fn first_unpaired(run: &[u8], index: &mut [u16], n: u16) -> FirstFault
+    requires { ⌜ NewlyListed (now run) (now index) n ⌝ }
+    ensures { λ r. ⌜ PairingJudged (now (run .entry)) (now (index .exit)) r × Listed (now (run .entry)) (now (index .exit)) ⌝ }
+{
+    let mut bad = [0u16; 8];
+    pair_all(run, index, &mut bad, n);
+    earliest(run, index, &bad, n)
+}
 
 // The state behind the last one that is done, or 0 where all are.
 fn next_of(done: u16, count: u16) -> u16

@@ -6,8 +6,6 @@ use crate::line::named;
 use crate::line::part;
 use crate::line::signed;
 use crate::refusals;
-use answers::writing::spaced;
-use answers::writing::text;
 use condition::Clause;
 use condition::ConditionReading;
 use condition::ConditionStep;
@@ -17,6 +15,8 @@ use condition::Test;
 use condition::pass::read_condition;
 use condition::reading::step;
 use record::Head;
+use writing::spaced;
+use writing::text;
 
 fn comparison_words(comparison: u16, at: usize, line: &mut [u8]) -> usize {
     match comparison {

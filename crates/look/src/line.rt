@@ -1,10 +1,10 @@
 // A line as it is made, and the numbers of a record. Where bytes aren't there a number is 0: a record that the step gave has them.
-use answers::writing::number;
-use answers::writing::spaced;
-use answers::writing::text;
 use libc::STDOUT_FILENO;
 use record::bytes::u16_at;
 use record::bytes::u32_at;
+use writing::number;
+use writing::spaced;
+use writing::text;
 
 pub fn short_at(bytes: &[u8], at: usize) -> u16 {
     if bytes.len() < 2 {

@@ -3,14 +3,14 @@ use crate::line::long_at;
 use crate::line::named;
 use crate::line::short_at;
 use crate::line::signed;
-use answers::writing::spaced;
-use answers::writing::text;
 use record::ChannelFields;
 use record::Head;
 use record::Record;
 use record::StateFields;
 use record::layout::CLOCK_PLACE;
 use record::layout::VALUES_PLACE;
+use writing::spaced;
+use writing::text;
 
 fn head_words(head: Head, at: usize, line: &mut [u8]) -> usize {
     let next = named(b" run processes", head.processes, at, line);

@@ -3,11 +3,11 @@ use crate::line::begin;
 use crate::line::end;
 use crate::line::named;
 use crate::line::part;
-use answers::writing::text;
 use libc::STDOUT_FILENO;
 use reader::shown::refused_bytes;
 use record::File;
 use record::Refusal;
+use writing::text;
 
 fn early_words(number: u16, at: usize, line: &mut [u8]) -> usize {
     match number {

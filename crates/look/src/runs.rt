@@ -5,8 +5,6 @@ use crate::line::end;
 use crate::line::part;
 use crate::records;
 use crate::refusals;
-use answers::writing::spaced;
-use answers::writing::text;
 use judging::whole::judge_run;
 use reader::read_at;
 use record::Record;
@@ -16,6 +14,8 @@ use record::Step;
 use record::reading::head_of;
 use run::RunReading;
 use run::index::INDEX_SIZE;
+use writing::spaced;
+use writing::text;
 
 // Whether a record follows the one of this kind.
 fn goes_on(record: Record) -> bool {

@@ -13,7 +13,7 @@ use Rattle.record.specs.declared.Head.{Head}
 use Rattle.run.specs.Said.{runIn}
 use Rattle.run.specs.Index.{Listed}
 use Rattle.run.proofs.Listed.{ok}
-use Rattle.judging.specs.Told.{Told}
+use Rattle.judged.specs.Told.{Told}
 
 module _ {s ix : List ℕ} {head : Head} (w : Told s ix head) where
   pub processes-few : head .processes ≤ 8

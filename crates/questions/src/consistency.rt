@@ -9,7 +9,7 @@ use record::reasons::CUT;
 use record::reasons::refusal_of;
 use run::RunReading;
 use run::index::INDEX_SIZE;
-ghost use Rattle.judging.specs.Told.{Told};
+ghost use Rattle.judged.specs.Told.{Told};
 ghost use Rattle.questions.specs.Questions.{AskedConsistent};
 
 // Of an accepted run: 16, or what the clocks say.

@@ -10,7 +10,7 @@ use record::reasons::NO_ROOM;
 use record::reasons::refusal_of;
 use run::RunReading;
 use run::index::INDEX_SIZE;
-ghost use Rattle.judging.specs.Told.{Told};
+ghost use Rattle.judged.specs.Told.{Told};
 ghost use Rattle.questions.specs.Questions.{AskedEach};
 
 // Of an accepted run: 16, 15, or the numbers.

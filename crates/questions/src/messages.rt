@@ -1,7 +1,6 @@
 // How many messages are on a channel at a cut?
 use crate::Count;
 use cut::choice::is_cut;
-use cut::transit::count_on;
 use judging::whole::judge_run;
 use record::File;
 use record::Head;
@@ -10,7 +9,8 @@ use record::reasons::CUT;
 use record::reasons::refusal_of;
 use run::RunReading;
 use run::index::INDEX_SIZE;
-ghost use Rattle.judging.specs.Told.{Told};
+use transit::count_on;
+ghost use Rattle.judged.specs.Told.{Told};
 ghost use Rattle.questions.specs.Questions.{AskedMessages};
 
 // Of an accepted run: 16, 17, or the count.

@@ -11,7 +11,7 @@ use record::reasons::refusal_of;
 use run::RunReading;
 use run::index::INDEX_SIZE;
 use search::satisfying::satisfied;
-ghost use Rattle.judging.specs.Told.{Told};
+ghost use Rattle.judged.specs.Told.{Told};
 ghost use Rattle.search.specs.Prepared.{Prepared};
 ghost use Rattle.questions.specs.Questions.{AskedSatisfies};
 

@@ -19,7 +19,7 @@ use Rattle.model.proofs.Search.{Under, Moves, local-moves, sender-moves, receiv
 use Rattle.condition.specs.Clauses.{testOf}
 use Rattle.cut.specs.declared.HasToMove.{HasToMove}
 use Rattle.cut.specs.declared.HasToMove.the-variants.{Nobody, Process}
-use Rattle.cut.proofs.Between.{Ends}
+use Rattle.transit.proofs.Between.{Ends}
 use Rattle.search.specs.Search.{EndNamed, Tested, Lowest, MustMove}
 use Rattle.search.specs.Search.EndNamed.{sender, receiver}
 use Rattle.search.specs.Search.Tested.{holding, localFalse, channelFalse}

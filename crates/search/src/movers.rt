@@ -1,15 +1,15 @@
 // Whom one clause names at a cut: nobody where it holds, else who has to move.
+use clause::channel_tests::count_passes;
+use clause::channel_tests::stamps_pass;
+use clause::local::local_holds;
 use condition::Clause;
 use condition::Local;
 use condition::Test;
 use condition::movers::who_moves;
 use cut::HasToMove;
-use cut::channel_tests::count_passes;
-use cut::channel_tests::stamps_pass;
-use cut::local::local_holds;
-use cut::transit::count_on;
 use model::Mover;
 use states::held::channel_at;
+use transit::count_on;
 ghost use mathlib.Core.Path.{_≡_};
 ghost use Prim.Native.Nat.{_≤_};
 ghost use Rattle.model.specs.Cut.{IsCut};

@@ -24,10 +24,10 @@ use Rattle.record.proofs.Pass.{accepted-holds}
 use Rattle.run.specs.Said.{runIn, recordedClock}
 use Rattle.run.specs.declared.RunReading.{RunReading}
 use Rattle.run.specs.declared.RunReading.the-variants.{Accepted}
-use Rattle.judging.specs.Judged.{Judged}
-use Rattle.judging.specs.Judged.Judged.{byPass, byPairing, byCircle, byClock, wholly}
-use Rattle.judging.specs.Accepted.{RunAccepted}
-use Rattle.judging.proofs.Acceptance.{accepted-known}
+use Rattle.judged.specs.Judged.{Judged}
+use Rattle.judged.specs.Judged.Judged.{byPass, byPairing, byCircle, byClock, wholly}
+use Rattle.judged.specs.Accepted.{RunAccepted}
+use Rattle.judged.proofs.Acceptance.{accepted-known}
 use Rattle.condition.specs.declared.Item.{Item}
 use Rattle.condition.specs.Items.{stepAt}
 use Rattle.condition.specs.Judge.{judgeNo}

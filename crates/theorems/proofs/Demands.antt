@@ -28,7 +28,7 @@ use Rattle.record.specs.declared.Refusal.{Refusal}
 use Rattle.run.specs.declared.RunReading.the-variants as R
 use Rattle.run.specs.Said.{runIn}
 use Rattle.run.proofs.Listed.{processes-are, channels-are}
-use Rattle.judging.specs.Judged.{Judged}
+use Rattle.judged.specs.Judged.{Judged}
 use Rattle.record.specs.Pass.{placesIn}
 use Rattle.condition.specs.Read.{readOf, clausesIn}
 use Rattle.record.specs.Pass.Read.{refused, accepted}
@@ -38,13 +38,13 @@ use Rattle.condition.specs.declared.Test.{Test}
 use Rattle.condition.proofs.Accepted.{condition-linear}
 use Rattle.checker.specs.declared.Answer.{Answer}
 use Rattle.checker.specs.declared.Answer.the-variants as A
-use Rattle.judging.specs.Accepted.{RunAccepted}
+use Rattle.judged.specs.Accepted.{RunAccepted}
 use Rattle.condition.specs.Accepted.{ConditionAccepted}
 use Rattle.condition.specs.Known.{clausesFor}
 use Rattle.cut.specs.Listing.{Wrote}
 use Rattle.checker.specs.Answered.{Both, Answered}
 use Rattle.checker.specs.Answered.Answered.{runRefused, condRefused, few, none, tooEarly, found}
-use Rattle.judging.proofs.Acceptance.{accepted-read, accepted-known}
+use Rattle.judged.proofs.Acceptance.{accepted-read, accepted-known}
 use Rattle.checker.proofs.Rows.{take-written}
 use Rattle.theorems.proofs.Determined.{answered-one}
 

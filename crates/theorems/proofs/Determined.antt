@@ -10,9 +10,9 @@ use Rattle.model.proofs.Numbers.{never}
 use Rattle.model.proofs.Lists.{le-or-lt}
 use Rattle.model.proofs.Lattice.{first-unique}
 use Rattle.record.specs.declared.Refusal.{Refusal}
-use Rattle.judging.specs.Judged.{Judged}
+use Rattle.judged.specs.Judged.{Judged}
 use Rattle.run.specs.declared.RunReading.the-variants as R
-use Rattle.judging.proofs.Once.{judged-one}
+use Rattle.judged.proofs.Once.{judged-one}
 use Rattle.record.specs.Pass as D
 use Rattle.record.specs.Pass.Read.{refused, accepted}
 use Rattle.checker.specs.declared.Answer.{Answer}
@@ -23,7 +23,7 @@ use Rattle.questions.specs.declared.Counts.{Counts}
 use Rattle.questions.specs.declared.Counts.the-variants as N
 use Rattle.questions.specs.declared.Verdict.{Verdict}
 use Rattle.questions.specs.declared.Verdict.the-variants as W
-use Rattle.judging.specs.Accepted.{RunAccepted}
+use Rattle.judged.specs.Accepted.{RunAccepted}
 use Rattle.cut.specs.Listing.{Wrote}
 use Rattle.checker.specs.Answered.{Answered, AnsweredListed}
 use Rattle.checker.specs.Answered.Answered.{runRefused, condRefused, few, none, tooEarly, found}

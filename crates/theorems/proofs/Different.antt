@@ -14,8 +14,9 @@ use Rattle.questions.specs.declared.Count.the-variants as C
 use Rattle.questions.specs.declared.Verdict.{Verdict}
 use Rattle.questions.specs.declared.Verdict.the-variants as W
 use Rattle.record.specs.Refusal.{refusal}
-use Rattle.answers.specs.Lines.{bytes, digits, decimal, spaced, numberLine, pairLine, rowLines, refusedWord, refusedLine, foundLines, answerLines, verdictLines, countLines}
-use Rattle.answers.proofs.Reading.{number-line-same, pair-line-same, rows-same}
+use Rattle.writing.specs.Text.{bytes, digits, decimal, spaced, numberLine, pairLine, rowLines}
+use Rattle.answers.specs.Lines.{refusedWord, refusedLine, foundLines, answerLines, verdictLines, countLines}
+use Rattle.writing.proofs.Reading.{number-line-same, pair-line-same, rows-same}
 
 -- ---- the same as far as it is printed
 

@@ -12,8 +12,9 @@ use Rattle.questions.specs.declared.Count.{Count}
 use Rattle.questions.specs.declared.Count.the-variants as C
 use Rattle.questions.specs.declared.Verdict.{Verdict}
 use Rattle.questions.specs.declared.Verdict.the-variants as W
-use Rattle.answers.specs.Lines.{bytes, refusedWord, refusedLine, foundLines, answerLines, verdictLines, countLines}
-use Rattle.answers.proofs.Lengths.{decimal-short, number-line-long, pair-line-long, row-lines-short}
+use Rattle.writing.specs.Text.{bytes}
+use Rattle.answers.specs.Lines.{refusedWord, refusedLine, foundLines, answerLines, verdictLines, countLines}
+use Rattle.writing.proofs.Lengths.{decimal-short, number-line-long, pair-line-long, row-lines-short}
 
 -- ---- numbers are no larger than their types hold, and a cut that is found is one of an accepted run
 

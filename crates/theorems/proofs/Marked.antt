@@ -28,8 +28,8 @@ use Rattle.record.specs.Pass.{ended, readFrom, readFile}
 use Rattle.run.specs.Read.{countsOf, readOf}
 use Rattle.record.specs.Pass.Read.{accepted}
 use Rattle.run.specs.Said.{statesOf, runIn, placeOf, recordedClock}
-use Rattle.judging.specs.Judged.{WrongClock, Faultless, Judged}
-use Rattle.judging.specs.Judged.Judged.{byClock, wholly}
+use Rattle.judged.specs.Judged.{WrongClock, Faultless, Judged}
+use Rattle.judged.specs.Judged.Judged.{byClock, wholly}
 use Rattle.run.specs.declared.RunReading.the-variants as R
 use Rattle.condition.specs.Read as D
 use Rattle.condition.specs.Items as E
@@ -41,14 +41,14 @@ use Rattle.questions.specs.declared.Count.{Count}
 use Rattle.questions.specs.declared.Count.the-variants as C
 use Rattle.questions.specs.declared.Verdict.{Verdict}
 use Rattle.questions.specs.declared.Verdict.the-variants.{Yes, No}
-use Rattle.judging.specs.Accepted.{RunAccepted}
+use Rattle.judged.specs.Accepted.{RunAccepted}
 use Rattle.condition.specs.Accepted.{ConditionAccepted}
 use Rattle.condition.specs.Known.{clausesFor}
 use Rattle.cut.specs.Listing.{Wrote}
 use Rattle.checker.specs.Answered.{Answered}
 use Rattle.checker.specs.Answered.Answered.{runRefused}
 use Rattle.questions.specs.Questions.{AskedConsistent, AskedMessages}
-use Rattle.judging.proofs.Acceptance.{known-paired}
+use Rattle.judged.proofs.Acceptance.{known-paired}
 use Rattle.theorems.proofs.Demands.{written, first-found}
 use Rattle.theorems.proofs.Determined.{answered-one, consistent-one, messages-one}
 

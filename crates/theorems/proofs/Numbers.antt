@@ -23,8 +23,8 @@ use Rattle.run.specs.Read as R
 use Rattle.run.specs.Said.{runIn, placeOf}
 use Rattle.run.proofs.Accepted.{record-stepped}
 use Rattle.run.proofs.Listed.{event-is, fields-are}
-use Rattle.judging.specs.Accepted.{RunAccepted}
-use Rattle.judging.proofs.Acceptance.{accepted-read}
+use Rattle.judged.specs.Accepted.{RunAccepted}
+use Rattle.judged.proofs.Acceptance.{accepted-read}
 use Rattle.condition.specs.declared.Clause as H
 use Rattle.condition.specs.declared.Clause.the-variants as L
 use Rattle.condition.specs.declared.Item.{Item}

@@ -24,9 +24,9 @@ use Rattle.record.specs.declared.Refusal.{Refusal}
 use Rattle.record.proofs.Pass.{Here, here-start, here-stopped, here-judged, here-end, here-more, read-short, read-long}
 use Rattle.run.specs.Read as R
 use Rattle.run.proofs.Accepted.{record-stepped}
-use Rattle.judging.specs.Judged.{Judged}
-use Rattle.judging.specs.Judged.Judged.{byPass, byPairing, byCircle, byClock, wholly}
-use Rattle.judging.specs.Accepted.{RunAccepted}
+use Rattle.judged.specs.Judged.{Judged}
+use Rattle.judged.specs.Judged.Judged.{byPass, byPairing, byCircle, byClock, wholly}
+use Rattle.judged.specs.Accepted.{RunAccepted}
 use Rattle.run.specs.declared.RunReading.{RunReading}
 use Rattle.run.specs.declared.RunReading.the-variants as W
 use Rattle.condition.specs.declared.Test.{Test}

@@ -1,6 +1,6 @@
 -- `answer` meets its contract: the first call tells how long the lines are, and the second puts them where they fit.
 use borrow.Author.Needs.{needs}
-use Rattle.answers.proofs.Putting.{put-made, put-short}
+use Rattle.answers.proofs.Calls.{put-made, put-short}
 use Rattle.answers.proofs.answer.Statement.{statement}
 use Rattle.answers.proofs.answer.Tie as tie
 

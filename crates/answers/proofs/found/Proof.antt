@@ -1,7 +1,8 @@
 -- `found` meets its contract: its parts are put one after the other.
 use borrow.Author.Needs.{needs}
-use Rattle.answers.specs.Lines.{bytes, foundLines}
-use Rattle.answers.proofs.Putting.{put-then}
+use Rattle.writing.specs.Text.{bytes}
+use Rattle.answers.specs.Lines.{foundLines}
+use Rattle.writing.proofs.Putting.{put-then}
 use Rattle.answers.proofs.found.Statement.{statement}
 use Rattle.answers.proofs.found.Tie as tie
 

@@ -1,6 +1,7 @@
 -- `put_answer` meets its contract, for each answer.
 use borrow.Author.Needs.{needs}
-use Rattle.answers.specs.Lines.{bytes, answerLines}
+use Rattle.writing.specs.Text.{bytes}
+use Rattle.answers.specs.Lines.{answerLines}
 use Rattle.answers.proofs.put_answer.Statement.{statement}
 use Rattle.answers.proofs.put_answer.Tie as tie
 

@@ -1,6 +1,7 @@
 -- `put_count` meets its contract, for each answer.
 use borrow.Author.Needs.{needs}
-use Rattle.answers.specs.Lines.{bytes, countLines}
+use Rattle.writing.specs.Text.{bytes}
+use Rattle.answers.specs.Lines.{countLines}
 use Rattle.answers.proofs.put_count.Statement.{statement}
 use Rattle.answers.proofs.put_count.Tie as tie
 

@@ -1,6 +1,7 @@
 -- `put_verdict` meets its contract, for each answer.
 use borrow.Author.Needs.{needs}
-use Rattle.answers.specs.Lines.{bytes, verdictLines}
+use Rattle.writing.specs.Text.{bytes}
+use Rattle.answers.specs.Lines.{verdictLines}
 use Rattle.answers.proofs.put_verdict.Statement.{statement}
 use Rattle.answers.proofs.put_verdict.Tie as tie
 

@@ -1,6 +1,7 @@
 -- `refused` meets its contract: the line with the word for its file.
 use borrow.Author.Needs.{needs}
-use Rattle.answers.specs.Lines.{bytes, refusedWord, refusedLine}
+use Rattle.writing.specs.Text.{bytes}
+use Rattle.answers.specs.Lines.{refusedWord, refusedLine}
 use Rattle.answers.proofs.refused.Statement.{statement}
 use Rattle.answers.proofs.refused.Tie as tie
 

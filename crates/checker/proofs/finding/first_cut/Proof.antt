@@ -1,7 +1,7 @@
 use borrow.Author.Needs.{needs}
 use mathlib.Core.Path.{refl}
 use Rattle.checker.specs.Answered.Answered.{runRefused}
-use Rattle.judging.proofs.Told.{judged-refused, judged-accepted}
+use Rattle.judged.proofs.Told.{judged-refused, judged-accepted}
 use Rattle.checker.proofs.finding.first_cut.Statement.{statement}
 use Rattle.checker.proofs.finding.first_cut.Tie as tie
 

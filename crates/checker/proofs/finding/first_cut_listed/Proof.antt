@@ -1,6 +1,6 @@
 -- `first_cut_listed` meets its contract: a refused run leaves all places as they were, an accepted one comes with its index.
 use borrow.Author.Needs.{needs}
-use Rattle.judging.proofs.Told.{judged-refused, judged-accepted}
+use Rattle.judged.proofs.Told.{judged-refused, judged-accepted}
 use Rattle.checker.proofs.Channels.{run-refused}
 use Rattle.checker.proofs.finding.first_cut_listed.Statement.{statement}
 use Rattle.checker.proofs.finding.first_cut_listed.Tie as tie

@@ -4,7 +4,7 @@ use Prim.Native.Nat.{ℕ, _+_, _-_, _≤_, _<_}
 use Rattle.model.specs.Run.{IsState}
 use Rattle.run.specs.Said.{runIn}
 use Rattle.cut.specs.Early.{InTime}
-use Rattle.cut.proofs.Stored.{processes-few, states-few}
+use Rattle.transit.proofs.Stored.{processes-few, states-few}
 use Rattle.cut.proofs.Received.{in-time-start, in-time-next, early-in-here, early-in-none}
 use Rattle.cut.proofs.early.early_in.Statement.{statement}
 use Rattle.cut.proofs.early.early_in.Tie as tie

@@ -3,7 +3,7 @@ use native.Mathlib.Omega.{arith}
 use Prim.Native.Nat.{_-_}
 use lib.ListN.{length}
 use Rattle.run.specs.Said.{runIn}
-use Rattle.cut.proofs.Stored.{processes-few}
+use Rattle.transit.proofs.Stored.{processes-few}
 use Rattle.cut.proofs.Received.{InTimeBelow, below-next, early-here, early-none}
 use Rattle.cut.proofs.early.has_early.Statement.{statement}
 use Rattle.cut.proofs.early.has_early.Tie as tie

@@ -2,8 +2,8 @@
 use native.Mathlib.Omega.{arith}
 use mathlib.Core.Path.{_≡_}
 use Prim.Native.Nat.{_≤_, _-_, zero-le}
-use Rattle.judging.specs.Firsts.{Earliest}
-use Rattle.judging.proofs.Firsts.{earliest-start}
+use Rattle.judged.specs.Firsts.{Earliest}
+use Rattle.judged.proofs.Firsts.{earliest-start}
 use Rattle.judging.proofs.faults.earliest.Statement.{statement}
 use Rattle.judging.proofs.faults.earliest.Tie as tie
 

@@ -1,7 +1,7 @@
 use borrow.Author.Needs.{needs}
 use native.Mathlib.Omega.{arith}
 use mathlib.Core.Path.{_∙_}
-use Rattle.judging.proofs.Firsts.{earliest-skip, earliest-take}
+use Rattle.judged.proofs.Firsts.{earliest-skip, earliest-take}
 use Rattle.run.proofs.Listed.{listed-eight, listed-slot, listed-at}
 use Rattle.judging.proofs.faults.with_process.Statement.{statement}
 use Rattle.judging.proofs.faults.with_process.Tie as tie

@@ -5,8 +5,8 @@ use mathlib.Core.Path.{refl}
 use Prim.Native.Nat.{_<_}
 use Rattle.record.specs.Record.{headOf}
 use Rattle.run.proofs.Listed.{ok, listed-few, listed-count}
-use Rattle.judging.proofs.Firsts.{candidates}
-use Rattle.judging.proofs.Verdicts.{circle-firsts, circle-judged}
+use Rattle.judged.proofs.Firsts.{candidates}
+use Rattle.judged.proofs.Verdicts.{circle-firsts, circle-judged}
 use Rattle.judging.proofs.whole.first_circular.Statement.{statement}
 use Rattle.judging.proofs.whole.first_circular.Tie as tie
 

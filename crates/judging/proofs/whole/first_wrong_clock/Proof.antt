@@ -1,5 +1,5 @@
 use borrow.Author.Needs.{needs}
-use Rattle.judging.proofs.Firsts.{candidates, first-judged}
+use Rattle.judged.proofs.Firsts.{candidates, first-judged}
 use Rattle.judging.proofs.whole.first_wrong_clock.Statement.{statement}
 use Rattle.judging.proofs.whole.first_wrong_clock.Tie as tie
 

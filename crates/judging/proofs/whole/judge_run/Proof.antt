@@ -3,8 +3,8 @@ use mathlib.Core.Path.{ap, _∙_}
 use Prim.Native.Nat.{ℕ}
 use lib.ListN.{length, length-replicate}
 use Rattle.run.specs.Index.{indexSize}
-use Rattle.judging.specs.Judged.Judged.{byPass}
-use Rattle.judging.proofs.Verdicts.{refused-by-pass, listed-by-pass}
+use Rattle.judged.specs.Judged.Judged.{byPass}
+use Rattle.judged.proofs.Verdicts.{refused-by-pass, listed-by-pass}
 use Rattle.judging.proofs.whole.judge_run.Statement.{statement}
 use Rattle.judging.proofs.whole.judge_run.Tie as tie
 

@@ -6,9 +6,9 @@ use Rattle.model.specs.Known.{Known}
 use Rattle.model.specs.Clocks.{Clocks}
 use Rattle.run.specs.Said.{runIn}
 use Rattle.run.specs.Index.{Partnered, clockIn}
-use Rattle.judging.specs.Judged.{Unpaired, Faultless}
-use Rattle.judging.specs.Judged.Judged.{byPairing, byCircle, byClock, wholly}
-use Rattle.judging.proofs.Firsts.{fault-at, no-fault}
+use Rattle.judged.specs.Judged.{Unpaired, Faultless}
+use Rattle.judged.specs.Judged.Judged.{byPairing, byCircle, byClock, wholly}
+use Rattle.judged.proofs.Firsts.{fault-at, no-fault}
 use Rattle.judging.proofs.whole.judge_states.Statement.{statement}
 use Rattle.judging.proofs.whole.judge_states.Tie as tie
 

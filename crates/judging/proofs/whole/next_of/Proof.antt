@@ -1,6 +1,6 @@
 use borrow.Author.Needs.{needs}
 use borrow.Author.Tests.{lt-ltb, le-ltb}
-use Rattle.judging.specs.Inner.{nextOf}
+use Rattle.judged.specs.Inner.{nextOf}
 use Rattle.judging.proofs.whole.next_of.Statement.{statement}
 use Rattle.judging.proofs.whole.next_of.Tie as tie
 

@@ -4,8 +4,8 @@ use native.Mathlib.Omega.{arith}
 use mathlib.Core.Path.{_≡_, sym, ap, _∙_}
 use Prim.Native.Nat.{ℕ, _-_, _≤_, _<_, zero-le}
 use lib.ListN.{length, getD, length-set}
-use Rattle.judging.specs.Inner.{nextOf}
-use Rattle.judging.proofs.Firsts.{each-next}
+use Rattle.judged.specs.Inner.{nextOf}
+use Rattle.judged.proofs.Firsts.{each-next}
 use Rattle.judging.proofs.whole.undone.Statement.{statement}
 use Rattle.judging.proofs.whole.undone.Tie as tie
 

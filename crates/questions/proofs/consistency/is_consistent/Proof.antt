@@ -1,5 +1,5 @@
 use borrow.Author.Needs.{needs}
-use Rattle.judging.proofs.Told.{judged-refused, judged-accepted}
+use Rattle.judged.proofs.Told.{judged-refused, judged-accepted}
 use Rattle.questions.specs.Questions.{AskedConsistent}
 use Rattle.questions.proofs.consistency.is_consistent.Statement.{statement}
 use Rattle.questions.proofs.consistency.is_consistent.Tie as tie

@@ -1,6 +1,6 @@
 use borrow.Author.Needs.{needs}
 use mathlib.Core.Path.{refl}
-use Rattle.judging.proofs.Told.{judged-refused, judged-accepted}
+use Rattle.judged.proofs.Told.{judged-refused, judged-accepted}
 use Rattle.questions.specs.Questions.{AskedEach}
 use Rattle.questions.proofs.listing.messages_on_each.Statement.{statement}
 use Rattle.questions.proofs.listing.messages_on_each.Tie as tie

@@ -1,5 +1,5 @@
 use borrow.Author.Needs.{needs}
-use Rattle.judging.proofs.Told.{judged-refused, judged-accepted}
+use Rattle.judged.proofs.Told.{judged-refused, judged-accepted}
 use Rattle.questions.specs.Questions.{AskedMessages}
 use Rattle.questions.proofs.messages.messages_on.Statement.{statement}
 use Rattle.questions.proofs.messages.messages_on.Tie as tie

@@ -1,5 +1,5 @@
 use borrow.Author.Needs.{needs}
-use Rattle.judging.proofs.Told.{judged-refused, judged-accepted}
+use Rattle.judged.proofs.Told.{judged-refused, judged-accepted}
 use Rattle.questions.specs.Questions.{AskedSatisfies}
 use Rattle.questions.proofs.satisfaction.satisfies.Statement.{statement}
 use Rattle.questions.proofs.satisfaction.satisfies.Tie as tie

@@ -4,7 +4,7 @@ use native.Mathlib.Omega.{arith}
 use mathlib.Core.Path.{sym, _∙_}
 use Rattle.run.specs.Said.{runIn}
 use Rattle.run.proofs.Listed.{ok}
-use Rattle.cut.proofs.Between.{Ends, ends-of}
+use Rattle.transit.proofs.Between.{Ends, ends-of}
 use Rattle.search.proofs.Tests.{names-sender, names-receiver, test-says}
 use Rattle.search.proofs.movers.end_named.Statement.{statement}
 use Rattle.search.proofs.movers.end_named.Tie as tie

@@ -1,0 +1,4 @@
+pub mod Decimal
+pub mod Putting
+pub mod Reading
+pub mod Lengths
