@@ -7,3 +7,4 @@ pub mod Enough
 pub mod Agreement
 pub mod Numbers
 pub mod HasClock
+pub mod Chains

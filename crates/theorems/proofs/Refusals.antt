@@ -1,17 +1,19 @@
--- What is refused, and with which number and file: a condition that isn't linear as such, nothing with 0, and each refusal with its own file.
+-- What is refused, and with which number and file: a condition that isn't linear as such, nothing with 18, and each file with its own numbers.
 use mathlib.Core.Path.{_≡_, refl, sym, ap, _∙_, subst}
 use mathlib.Core.Logic.{_⊎_, inl, inr, ⊎-elim}
-use mathlib.Core.Bool.{Bool, true, false, cond}
-use mathlib.Core.List.{List, []}
+use mathlib.Core.Bool.{Bool, true, false, not, cond}
+use mathlib.Core.List.{List, [], _∷_, _++_, List·Memᴰ, List·Memᴰ·head, List·Memᴰ·tail, Memᴰ·append-left}
 use Prim.Native.Nat.{ℕ, zero, suc, _+_, _≤_, _<_}
 use native.Mathlib.Omega.{arith}
 use borrow.Author.Tests.{eqb-true, eqb-false}
-use lib.Dec.{eqb, ltb}
+use lib.Dec.{T, eqb, eqb→eq, ltb}
 use lib.ListN.{length}
-use Rattle.model.proofs.Lists.{le-or-lt}
+use Rattle.model.specs.Clause.{someOf, everyOf}
+use Rattle.model.proofs.Lists.{le-or-lt, eq→eqb, or-T, every-mem}
 use Rattle.model.proofs.Numbers.{never}
+use Rattle.model.proofs.Order.{consistent-by-message}
 use Rattle.record.specs.Refusal.{number, refusal}
-use Rattle.record.specs.Refusal.Reason.{tooLong, wrongKind}
+use Rattle.record.specs.Refusal.Reason.{wrongKind}
 use Rattle.record.specs.Pass.{Pass, ended, readFile}
 use Rattle.record.specs.Pass.Read.{refused, accepted}
 use Rattle.record.specs.Inner.{readRecords}
@@ -23,6 +25,7 @@ use Rattle.record.specs.declared.Head.{Head}
 use Rattle.record.specs.declared.Refusal.{Refusal}
 use Rattle.record.proofs.Pass.{Here, here-start, here-stopped, here-judged, here-end, here-more, read-short, read-long}
 use Rattle.run.specs.Read as R
+use Rattle.run.specs.Said.{runIn}
 use Rattle.run.proofs.Accepted.{record-stepped}
 use Rattle.judged.specs.Judged.{Judged}
 use Rattle.judged.specs.Judged.Judged.{byPass, byPairing, byCircle, byClock, wholly}
@@ -40,10 +43,12 @@ use Rattle.condition.specs.Read as D
 use Rattle.condition.proofs.Laws.{item-stepped}
 use Rattle.checker.specs.declared.Answer.{Answer}
 use Rattle.checker.specs.declared.Answer.the-variants as A
-use Rattle.checker.specs.Answered.{Answered}
+use Rattle.checker.specs.Answered.{Answered, AnsweredListed}
 use Rattle.checker.specs.Answered.Answered.{runRefused, condRefused, few, none, tooEarly, found}
+use Rattle.theorems.specs.Refusals.{RefusalOf, runNumbers, conditionNumbers, Gives}
 use Rattle.theorems.proofs.Determined.{refused-once}
-use Rattle.theorems.proofs.Demands.{condition-refused-next, not-linear-refused}
+use Rattle.theorems.proofs.Demands.{condition-refused-next, known, not-linear-refused}
+use Rattle.theorems.proofs.Chains.{step, condition-step, record-judged, item-judged}
 
 -- ---- a condition that isn't linear
 
@@ -69,112 +74,175 @@ not-linear-answered {s} {c} {at = at} {next} t v short w g l e u =
     let p = D.conditionPass c (headOf s) in
     condition-refused-next v (read-short p short ∙ here-judged p (reached w) (I.Clause (K.Channel t)) next g (λ z. omega (arith, n, z)) ∙ ap (λ x. refused (refusal Condition x at)) n) u
 
--- ---- no refusal has the number 0, and each has its file
+-- ---- each refusal has its file, and one of that file's numbers
 
--- a refusal of a file has a number, and says the file
-pub record RefusalOf (f : File) (x : Refusal) : Type 0 where
-  pub numbered : x .number ≡ 0 → ⊥
-  pub file : x .file ≡ f
+-- a number other than 0 is one of these
+abbrev Among : List ℕ → ℕ → Type 0
+Among ns n = (n ≡ 0 → ⊥) → List·Memᴰ n ns
 
--- so does one with a number that isn't 0
-refusal-of : (f : File) (n place : ℕ) (after : Bool) → (n ≡ 0 → ⊥) → RefusalOf f (record { file = f; number = n; place = place; after = after })
-refusal-of f n place after h = record { numbered = h; file = refl }
+in-list : (ns : List ℕ) {n : ℕ} → T (someOf (eqb n) ns) → List·Memᴰ n ns
+in-list [] t = absurd t
+in-list (m ∷ ns) {n} t = elim (or-T (eqb n m) (someOf (eqb n) ns) t) [ inl u ↦ List·Memᴰ·head (eqb→eq n m u) | inr u ↦ List·Memᴰ·tail (in-list ns u) ]
 
-ended-of : (f : File) (s : List ℕ) (next : ℕ) (qs : List ℕ) (x : Refusal) → ended f s next qs ≡ refused x → RefusalOf f x
-unfolding ended
-ended-of f s next qs x e = go (ltb next (length s)) e
-  where
-    go : (t : Bool) → cond t (refused (record { file = f; number = number wrongKind; place = next; after = true })) (accepted qs) ≡ refused x → RefusalOf f x
-    go true e = subst (RefusalOf f) (refused-once refl e) (refusal-of f (number wrongKind) next true (λ z. omega (arith, z)))
-    go false e = never (cc)
+among : (ns : List ℕ) {n : ℕ} → T (someOf (eqb n) ns) → Among ns n
+among ns t z = in-list ns t
 
-module _ {Item Known : Type 0} (p : Pass Item Known)
-    (stopped : (at : ℕ) (k : Known) (x : Refusal) → p .step at k ≡ inl x → RefusalOf (p .file) x)
+none-among : {ns : List ℕ} → Among ns 0
+none-among z = absurd (z refl)
+
+refusal-of : (f : File) {ns : List ℕ} (n place : ℕ) (after : Bool) → List·Memᴰ n ns → RefusalOf f ns (record { file = f; number = n; place = place; after = after })
+refusal-of f n place after m = record { number = m; file = refl }
+
+module _ (f : File) (ns : List ℕ) (kind : List·Memᴰ 4 ns) where
+  ended-of : (s : List ℕ) (next : ℕ) (qs : List ℕ) (x : Refusal) → ended f s next qs ≡ refused x → RefusalOf f ns x
+  unfolding ended
+  ended-of s next qs x e = go (ltb next (length s)) e
+    where
+      go : (t : Bool) → cond t (refused (record { file = f; number = number wrongKind; place = next; after = true })) (accepted qs) ≡ refused x → RefusalOf f ns x
+      go true e = subst (RefusalOf f ns) (refused-once refl e) (refusal-of f 4 next true kind)
+      go false e = never (cc)
+
+module _ {Item Known : Type 0} (p : Pass Item Known) (ns : List ℕ) (long : List·Memᴰ 1 ns) (kind : List·Memᴰ 4 ns)
+    (stopped : (at : ℕ) (k : Known) (x : Refusal) → p .step at k ≡ inl x → RefusalOf (p .file) ns x)
+    (judged : (at : ℕ) (k : Known) (r : Item) → Among ns (p .judge at k r))
     (on : (at next : ℕ) (k : Known) (r : Item) → p .step at k ≡ inr (r, next) → (at < next) × (next ≤ length (p .bytes)))
     (x : Refusal) where
+  abbrev Right : Refusal → Type 0
+  Right = RefusalOf (p .file) ns
+
   module _ (e : readRecords p ≡ refused x) where
     -- a record is refused so, or else the pass goes on behind it
-    goes-on : {at : ℕ} {k : Known} → Here p at k → ((r : Item) (next : ℕ) → p .step at k ≡ inr (r, next) → Here p next (p .more r at k) → RefusalOf (p .file) x)
-        → RefusalOf (p .file) x
+    goes-on : {at : ℕ} {k : Known} → Here p at k → ((r : Item) (next : ℕ) → p .step at k ≡ inr (r, next) → Here p next (p .more r at k) → Right x) → Right x
     goes-on {at} {k} here rest = by-step (p .step at k) refl
       where
-        by-judge : (r : Item) (next : ℕ) → p .step at k ≡ inr (r, next) → (t : Bool) → eqb (p .judge at k r) 0 ≡ t → (u : Bool) → p .isEnd r ≡ u
-            → RefusalOf (p .file) x
+        by-judge : (r : Item) (next : ℕ) → p .step at k ≡ inr (r, next) → (t : Bool) → eqb (p .judge at k r) 0 ≡ t → (u : Bool) → p .isEnd r ≡ u → Right x
         by-judge r next g false a u b =
             let n = eqb-false _ 0 a in
-            subst (RefusalOf (p .file)) (refused-once (here-judged p here r next g n) e) (refusal-of (p .file) (p .judge at k r) at false n)
-        by-judge r next g true a true b = ended-of (p .file) (p .bytes) next (p .places k) x (sym (here-end p here r next g (eqb-true _ 0 a) b) ∙ e)
+            subst Right (refused-once (here-judged p here r next g n) e) (refusal-of (p .file) (p .judge at k r) at false (judged at k r n))
+        by-judge r next g true a true b = ended-of (p .file) ns kind (p .bytes) next (p .places k) x (sym (here-end p here r next g (eqb-true _ 0 a) b) ∙ e)
         by-judge r next g true a false b = let l = on at next k r g in rest r next g (here-more p here r next g (eqb-true _ 0 a) b (l .0) (l .1))
 
-        by-step : (v : Refusal ⊎ (Item × ℕ)) → p .step at k ≡ v → RefusalOf (p .file) x
-        by-step (inl y) g = subst (RefusalOf (p .file)) (refused-once (here-stopped p here y g) e) (stopped at k y g)
+        by-step : (v : Refusal ⊎ (Item × ℕ)) → p .step at k ≡ v → Right x
+        by-step (inl y) g = subst Right (refused-once (here-stopped p here y g) e) (stopped at k y g)
         by-step (inr (r, next)) g = by-judge r next g (eqb (p .judge at k r) 0) refl (p .isEnd r) refl
 
     -- by how much of the file is left
-    from-here : (m : ℕ) {at : ℕ} {k : Known} → length (p .bytes) ≤ at + m → Here p at k → RefusalOf (p .file) x
+    from-here : (m : ℕ) {at : ℕ} {k : Known} → length (p .bytes) ≤ at + m → Here p at k → Right x
     from-here zero {at} {k} h here = goes-on here (λ r next g w. let l = on at next k r g in absurd (omega (arith, h, l .0, l .1)))
     from-here (suc m) {at} {k} h here = goes-on here (λ r next g w. let l = on at next k r g in from-here m (omega (arith, h, l .0)) w)
 
-  file-refused : readFile p ≡ refused x → RefusalOf (p .file) x
+  file-refused : readFile p ≡ refused x → Right x
   file-refused e = ⊎-elim
       (λ l. from-here (sym (read-short p l) ∙ e) (length (p .bytes)) (omega arith) (here-start p))
-      (λ l. subst (RefusalOf (p .file)) (refused-once (read-long p l) e) (refusal-of (p .file) (number tooLong) 0 false (λ z. omega (arith, z))))
+      (λ l. subst Right (refused-once (read-long p l) e) (refusal-of (p .file) 1 0 false long))
       (le-or-lt (length (p .bytes)) 65535)
 
 -- of a run that the pass refuses
-step-refused : (s : List ℕ) (at : ℕ) (x : Refusal) → R.given (stepAt s at) ≡ inl x → RefusalOf Run x
+step-refused : (ns : List ℕ) (s : List ℕ) (at : ℕ) (x : Refusal) → Among ns (stepNo s at) → R.given (stepAt s at) ≡ inl x → RefusalOf Run ns x
 unfolding stepAt
-step-refused s at x e = go (eqb (stepNo s at) 0) refl e
+step-refused ns s at x w e = go (eqb (stepNo s at) 0) refl e
   where
     go : (t : Bool) → eqb (stepNo s at) 0 ≡ t
-        → R.given (cond t (S.Got (recordAt s at) (at + lengthAt s at)) (S.Refused (refusal Run (stepNo s at) at))) ≡ inl x → RefusalOf Run x
+        → R.given (cond t (S.Got (recordAt s at) (at + lengthAt s at)) (S.Refused (refusal Run (stepNo s at) at))) ≡ inl x → RefusalOf Run ns x
     go true k e = never (cc)
-    go false k e = let same : refusal Run (stepNo s at) at ≡ x = cc in subst (RefusalOf Run) same (refusal-of Run (stepNo s at) at false (eqb-false _ 0 k))
+    go false k e = let same : refusal Run (stepNo s at) at ≡ x = cc in subst (RefusalOf Run ns) same (refusal-of Run (stepNo s at) at false (w (eqb-false _ 0 k)))
 
-pass-refused : (s : List ℕ) (x : Refusal) → R.readOf s ≡ refused x → RefusalOf Run x
+pass-refused : (s : List ℕ) (x : Refusal) → R.readOf s ≡ refused x → RefusalOf Run runNumbers x
 unfolding R.readOf
 pass-refused s x e =
-    file-refused (R.runPass s) (λ at k y g. step-refused s at y g) (λ at next k r g. let d = record-stepped s at next r g in (d .further, d .within)) x e
+    let ns = runNumbers in
+    file-refused (R.runPass s) ns (in-list ns tt) (in-list ns tt)
+    (λ at k y g. step-refused ns s at y (step (Among ns) none-among s at (among ns tt) (among ns tt) (among ns tt) (among ns tt)) g)
+    (λ at k r. record-judged (Among ns) none-among s (R.countsOf s k) at r (among ns tt) (among ns tt) (among ns tt) (among ns tt) (among ns tt))
+    (λ at next k r g. let d = record-stepped s at next r g in (d .further, d .within)) x e
 
--- "A refusal gives the file, the number": of a run it says the run,
-pub run-refusal : {s : List ℕ} {x : Refusal} → Judged s (W.Refused x) → RefusalOf Run x
+-- "A refusal gives the file, the number": of a run it says the run, and has one of 1 to 13,
+pub run-refusal : {s : List ℕ} {x : Refusal} → Judged s (W.Refused x) → RefusalOf Run runNumbers x
 run-refusal {s} {x} j = go j refl
   where
-    as-refused : {y : Refusal} → RefusalOf Run y → W.Refused y ≡ W.Refused x → RefusalOf Run x
-    as-refused {y} w e = let same : y ≡ x = cc in subst (RefusalOf Run) same w
+    as-refused : {y : Refusal} → RefusalOf Run runNumbers y → W.Refused y ≡ W.Refused x → RefusalOf Run runNumbers x
+    as-refused {y} w e = let same : y ≡ x = cc in subst (RefusalOf Run runNumbers) same w
 
-    go : {r : RunReading} → Judged s r → r ≡ W.Refused x → RefusalOf Run x
+    go : {r : RunReading} → Judged s r → r ≡ W.Refused x → RefusalOf Run runNumbers x
     go (byPass y d) e = as-refused (pass-refused s y d) e
-    go (byPairing at d w) e = as-refused (refusal-of Run 11 at false (λ z. omega (arith, z))) e
-    go (byCircle at d n w) e = as-refused (refusal-of Run 12 at false (λ z. omega (arith, z))) e
-    go (byClock at d n m w) e = as-refused (refusal-of Run 13 at false (λ z. omega (arith, z))) e
+    go (byPairing at d w) e = as-refused (refusal-of Run 11 at false (in-list runNumbers tt)) e
+    go (byCircle at d n w) e = as-refused (refusal-of Run 12 at false (in-list runNumbers tt)) e
+    go (byClock at d n m w) e = as-refused (refusal-of Run 13 at false (in-list runNumbers tt)) e
     go (wholly d n m o) e = never (cc)
 
--- and of a condition the condition
-item-refused : (c : List ℕ) (at owed : ℕ) (x : Refusal) → D.given (E.stepAt c at owed) ≡ inl x → RefusalOf Condition x
+-- and of a condition the condition, with one of 1 to 5, 7, 8 and 14
+item-refused : (ns c : List ℕ) (at owed : ℕ) (x : Refusal) → Among ns (E.stepNo c at owed) → D.given (E.stepAt c at owed) ≡ inl x → RefusalOf Condition ns x
 unfolding E.stepAt
-item-refused c at owed x e = go (eqb (E.stepNo c at owed) 0) refl e
+item-refused ns c at owed x w e = go (eqb (E.stepNo c at owed) 0) refl e
   where
     go : (t : Bool) → eqb (E.stepNo c at owed) 0 ≡ t
-        → D.given (cond t (C.Got (E.itemAt c at) (at + lengthAt c at)) (C.Refused (refusal Condition (E.stepNo c at owed) at))) ≡ inl x → RefusalOf Condition x
+        → D.given (cond t (C.Got (E.itemAt c at) (at + lengthAt c at)) (C.Refused (refusal Condition (E.stepNo c at owed) at))) ≡ inl x → RefusalOf Condition ns x
     go true k e = never (cc)
     go false k e =
         let same : refusal Condition (E.stepNo c at owed) at ≡ x = cc in
-        subst (RefusalOf Condition) same (refusal-of Condition (E.stepNo c at owed) at false (eqb-false _ 0 k))
+        subst (RefusalOf Condition ns) same (refusal-of Condition (E.stepNo c at owed) at false (w (eqb-false _ 0 k)))
 
-pub condition-refusal : (c : List ℕ) (h : Head) (x : Refusal) → D.readOf c h ≡ refused x → RefusalOf Condition x
+pub condition-refusal : (c : List ℕ) (h : Head) (x : Refusal) → D.readOf c h ≡ refused x → RefusalOf Condition conditionNumbers x
 unfolding D.readOf
 condition-refusal c h x e =
-    file-refused (D.conditionPass c h) (λ at k y g. item-refused c at (k .0) y g)
+    let ns = conditionNumbers in
+    file-refused (D.conditionPass c h) ns (in-list ns tt) (in-list ns tt)
+    (λ at k y g. item-refused ns c at (k .0) y (condition-step (Among ns) none-among c at (k .0) (among ns tt) (among ns tt) (among ns tt)) g)
+    (λ at k r. item-judged (Among ns) none-among h r (among ns tt) (among ns tt) (among ns tt) (among ns tt))
     (λ at next k r g. let d = item-stepped c at (k .0) next r g in (d .further, d .within)) x e
+
+-- ---- which numbers the search can give
+
+more : {f : File} {ns : List ℕ} (ms : List ℕ) {x : Refusal} → RefusalOf f ns x → RefusalOf f (ns ++ ms) x
+more ms w = record { number = Memᴰ·append-left ms (w .number); file = w .file }
+
+abbrev Sought : Refusal → Type 0
+Sought = Gives (runNumbers ++ (15 ∷ [])) conditionNumbers
+
+search-refused : {s c lent lent′ : List ℕ} {a : Answer} (x : Refusal) → Answered s c lent lent′ a → a ≡ A.Refused x → Sought x
+search-refused x (runRefused y j d) e = let same : y ≡ x = cc in subst Sought same (inl (more (15 ∷ []) (run-refusal j)))
+search-refused {s} {c} x (condRefused y j d r) e = let same : y ≡ x = cc in subst Sought same (inr (condition-refusal c (headOf s) y d))
+search-refused x (few b h d) e =
+    let same : refusal Run 15 0 ≡ x = cc in
+    subst Sought same (inl (refusal-of Run 15 0 false (in-list (runNumbers ++ (15 ∷ [])) tt)))
+search-refused x (none b h n d) e = never (cc)
+search-refused {s} x (tooEarly b h cut f n d) e =
+    absurd (n (consistent-by-message (runIn s) (known (b .run)) cut (f .satisfies .isCut) .0 (f .satisfies .consistent)))
+search-refused x (found b h cut f m w) e = never (cc)
+
+listed-refused : {s c lent lent′ row row′ : List ℕ} {a : Answer} (x : Refusal) → AnsweredListed s c lent lent′ row row′ a → a ≡ A.Refused x → Sought x
+listed-refused x (AnsweredListed.fewRow b h d r) e =
+    let same : refusal Run 15 0 ≡ x = cc in
+    subst Sought same (inl (refusal-of Run 15 0 false (in-list (runNumbers ++ (15 ∷ [])) tt)))
+listed-refused x (AnsweredListed.unlisted a n h w r) e = search-refused x w e
+listed-refused x (AnsweredListed.listed h w cut f v) e = never (cc)
+
+module _ {s c lent lent′ : List ℕ} {x : Refusal} where
+  -- of the run 1 to 13 and 15, of the condition 1 to 5, 7, 8 and 14
+  pub search-gives : Answered s c lent lent′ (A.Refused x) → Gives (runNumbers ++ (15 ∷ [])) conditionNumbers x
+  search-gives w = search-refused x w refl
+
+  pub listed-gives : {row row′ : List ℕ} → AnsweredListed s c lent lent′ row row′ (A.Refused x) → Gives (runNumbers ++ (15 ∷ [])) conditionNumbers x
+  listed-gives w = listed-refused x w refl
+
+-- a number that is in neither list is given by nobody
+given-none : (m : ℕ) {ns ms : List ℕ} {x : Refusal} → T (everyOf (λ n. not (eqb n m)) ns) → T (everyOf (λ n. not (eqb n m)) ms) → Gives ns ms x → x .number ≡ m → ⊥
+given-none m {ns} {ms} {x} t u w e = ⊎-elim (λ v. other t (v .number)) (λ v. other u (v .number)) w
+  where
+    not-both : (b : Bool) → T (not b) → T b → ⊥
+    not-both true d t = d
+    not-both false d t = t
+
+    other : {ks : List ℕ} → T (everyOf (λ n. not (eqb n m)) ks) → List·Memᴰ (x .number) ks → ⊥
+    other t i = not-both (eqb (x .number) m) (every-mem (λ n. not (eqb n m)) t i) (eq→eqb _ _ e)
 
 -- "No refusal has number 0": and so no answer has
 pub answer-numbered : {s c lent lent′ : List ℕ} {a : Answer} (x : Refusal) → Answered s c lent lent′ a → a ≡ A.Refused x → x .number ≡ 0 → ⊥
-answer-numbered x (runRefused y j d) e z = let same : y ≡ x = cc in run-refusal j .numbered (ap (λ (y : Refusal). y .number) same ∙ z)
-answer-numbered {s} {c} x (condRefused y j d r) e z =
-    let same : y ≡ x = cc in
-    condition-refusal c (headOf s) y d .numbered (ap (λ (y : Refusal). y .number) same ∙ z)
-answer-numbered x (few b h d) e z = let same : refusal Run 15 0 ≡ x = cc in omega (arith, ap (λ (y : Refusal). y .number) same, z)
-answer-numbered x (none b h n d) e z = never (cc)
-answer-numbered x (tooEarly b h cut f n d) e z = let same : refusal Run 18 0 ≡ x = cc in omega (arith, ap (λ (y : Refusal). y .number) same, z)
-answer-numbered x (found b h cut f m w) e z = never (cc)
+answer-numbered x w e = given-none 0 tt tt (search-refused x w e)
+
+-- "No run and condition lead to 18, because a found cut is consistent": whatever the bytes and the lent places, neither call of the search gives it
+pub never-18 : {s c lent lent′ : List ℕ} {x : Refusal} → Answered s c lent lent′ (A.Refused x) → x .number ≡ 18 → ⊥
+never-18 w = given-none 18 tt tt (search-gives w)
+
+pub listed-never-18 : {s c lent lent′ row row′ : List ℕ} {x : Refusal} → AnsweredListed s c lent lent′ row row′ (A.Refused x) → x .number ≡ 18 → ⊥
+listed-never-18 w = given-none 18 tt tt (listed-gives w)
