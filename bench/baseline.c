@@ -65,7 +65,6 @@ enum test {
     COUNT_OTHER_THAN
 };
 
-/* There is no 18 here: clocks that are right never let an early receive into a cut. */
 enum reason {
     ACCEPTED,
     TOO_LONG,

@@ -221,7 +221,7 @@ class Table:
             yield f"question {kind} {name}: {self.questions[kind]}"
         for kind in ANSWER_KINDS:
             yield f"answer {kind}: {self.answers[kind]}"
-        for number in range(1, 19):
+        for number in range(1, 18):
             yield self.refusal_line(number)
         for comparison in range(1, 5):
             yield self.clause_line("comparison", reading.KIND_LOCAL_CLAUSE, comparison)
@@ -229,7 +229,7 @@ class Table:
             yield self.clause_line("test", reading.KIND_CHANNEL_CLAUSE, test)
 
     def not_reached(self) -> Iterator[str]:
-        """What some case has to reach; 18 isn't among it, since no run gives it."""
+        """What some case has to reach."""
         for kind, name in QUESTION_NAMES.items():
             if not self.questions[kind]:
                 yield f"question {name}"

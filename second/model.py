@@ -211,16 +211,6 @@ def stamps_in_transit(run: Run, cut: Sequence[int], channel: int) -> list[int]:
     return [stamp for message, stamp in sent.items() if message not in received]
 
 
-def has_early_receive(run: Run, cut: Sequence[int]) -> bool:
-    """Some message is received up to the cut and not sent up to it."""
-    for sends, receives in zip(run.sends, run.receives):
-        sent = {send.message for send in sends if send.number <= cut[send.process]}
-        for receive in receives:
-            if receive.number <= cut[receive.process] and receive.message not in sent:
-                return True
-    return False
-
-
 # Clauses
 
 

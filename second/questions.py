@@ -9,7 +9,6 @@ from model import (
     Cut,
     Run,
     first_cut,
-    has_early_receive,
     is_consistent,
     is_satisfying,
     stamps_in_transit,
@@ -17,7 +16,6 @@ from model import (
 from reading import (
     CHANNEL_LENGTH,
     CONDITION,
-    EARLY,
     FORMAT,
     FRAME_LENGTH,
     KIND,
@@ -67,11 +65,7 @@ def search(run_bytes: bytes, condition_bytes: bytes, lent: int) -> Optional[Foun
     if lent < run.process_count:
         raise Refusal(RUN, NO_ROOM, 0)
     cut = first_cut(run, clauses)
-    if cut is None:
-        return None
-    if has_early_receive(run, cut):
-        raise Refusal(RUN, EARLY, 0)
-    return Found(cut, message_counts(run, cut))
+    return None if cut is None else Found(cut, message_counts(run, cut))
 
 
 def message_counts(run: Run, cut: Cut) -> tuple[int, ...]:

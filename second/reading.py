@@ -67,7 +67,6 @@ NOT_LINEAR = 14
 NO_ROOM = 15
 WRONG_CUT = 16
 WRONG_CHANNEL = 17
-EARLY = 18
 
 
 class Refusal(Exception):

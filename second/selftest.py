@@ -49,7 +49,6 @@ from model import (  # noqa: E402
     every_cut,
     first_by_enumeration,
     first_by_moving_up,
-    has_early_receive,
     is_consistent,
     on_or_after_circle,
     process_to_move,
@@ -372,6 +371,15 @@ def consistent_by_clocks(run: Run, cut: tuple[int, ...]) -> bool:
     )
 
 
+def consistent_by_messages(run: Run, cut: tuple[int, ...]) -> bool:
+    """Each message received up to the cut was sent up to it."""
+    return all(
+        {receive.message for receive in receives if receive.number <= cut[receive.process]}
+        <= {send.message for send in sends if send.number <= cut[send.process]}
+        for sends, receives in zip(run.sends, run.receives)
+    )
+
+
 def balances(run: Run, cut: tuple[int, ...]) -> bool:
     """On each channel, sent equals received plus in transit."""
     for channel in range(len(run.channels)):
@@ -392,7 +400,7 @@ def three_ways_of_consistency() -> Iterator[Outcome]:
         cuts = list(every_cut(run))
         by_definition = [cut for cut in cuts if is_consistent(run, cut)]
         by_clocks = [cut for cut in cuts if consistent_by_clocks(run, cut)]
-        by_messages = [cut for cut in cuts if not has_early_receive(run, cut)]
+        by_messages = [cut for cut in cuts if consistent_by_messages(run, cut)]
         yield f"consistency by clocks {index}", by_definition, by_clocks
         yield f"consistency by messages {index}", by_definition, by_messages
         unbalanced = [cut for cut in by_definition if not balances(run, cut)]

@@ -1,7 +1,7 @@
 """Small repositories that a test finds right, and changes that it has to find wrong.
 
-They show that the counts of the shape and the test of what has to be believed fail
-where something is too large, or isn't where the document says.
+They show that the counts of the shape, and the tests of what has to be believed, of contracts
+and of numbers fail where something is too large, or isn't what the document says.
 """
 
 from __future__ import annotations
@@ -206,5 +206,80 @@ pub fn says(n: u16) {
                ("small::sings is no public call",)),
         Change("an exception without a reason", LISTING, "why", "",
                ("small::asks has none", "small::says has none")),
+    ),
+)
+
+
+# A repository with two refusals, and a call that gives both
+
+REASONS, CONSTANTS = "crates/record/specs/Refusal.antt", "crates/record/src/reasons.rt"
+SECOND, BASELINE = "second/reading.py", "bench/baseline.c"
+LISTS, THEOREMS = "crates/theorems/specs/Refusals.antt", "crates/theorems/proofs/Refusals.antt"
+REFUSALS = "docs/REFUSALS.md"
+
+NUMBERED = Small(
+    "a repository whose refusals have the same numbers everywhere",
+    {
+        REASONS: "number tooLong = 1\nnumber cutShort = 2\n-- 18 isn't used again\n",
+        CONSTANTS: "pub const TOO_LONG: u16 = 1;\n\npub const CUT_SHORT: u16 = 2;\n",
+        SECOND: "TOO_LONG = 1\nCUT_SHORT = 2\n\nOTHER = 18\n",
+        BASELINE: "enum reason {\n    ACCEPTED,\n    TOO_LONG,\n    CUT_SHORT\n};\n",
+        LISTS: "runNumbers = 1 ∷ []\n\nconditionNumbers = 2 ∷ []\n",
+        THEOREMS: """\
+  -- `first_cut`, `listed`
+  pub search-gives : Answered s (A.Refused x) → Gives (runNumbers ++ (2 ∷ [])) conditionNumbers x
+  search-gives w = w
+""",
+        REFUSALS: """\
+| 1 | too long |
+| 2 | cut short |
+
+Older handbooks list a refusal 18, which no file can give.
+
+## In words
+
+| 1 | over 65,535 bytes |
+| 2 | the end is missing |
+
+## Which call gives which
+
+| `checker::first_cut`, `listed` | 1 to 2 | 2 |
+
+## Each refusal
+
+### 1 too long
+
+### 2 cut short
+""",
+        "docs/FORMAT.md": "| 18 | channel clause |\n",
+    },
+    (
+        Change("the old number given again", REASONS, "--", "number early = 18\n--",
+               ("18 is given again", *["[1, 2] in place of [1, 2, 18]"] * 6, "18 is spoken of at [3, 4]")),
+        Change("a constant more", CONSTANTS, "= 2;\n", "= 2;\n\npub const MORE: u16 = 3;\n",
+               ("[1, 2, 3] in place of [1, 2]",)),
+        Change("another number in the second program", SECOND, "= 2", "= 3", ("[1, 3] in place of [1, 2]",)),
+        Change("a reason more in the baseline", BASELINE, "CUT_SHORT", "CUT_SHORT,\n    EARLY",
+               ("[1, 2, 3] in place of [1, 2]",)),
+        Change("another number in the baseline", BASELINE, "CUT_SHORT", "CUT_SHORT = 3",
+               ("[1, 3] in place of [1, 2]",)),
+        Change("a row of the table missing", REFUSALS, "| 2 | cut short |\n", "", ("[1] in place of [1, 2]",)),
+        Change("a row of words too many", REFUSALS, "| 2 | the end", "| 18 | early |\n| 2 | the end",
+               ("[1, 18, 2] in place of [1, 2]",)),
+        Change("a section missing", REFUSALS, "### 2 cut short\n", "", ("[1] in place of [1, 2]",)),
+        Change("the line beside the reasons missing", REASONS, "-- 18 isn't used again\n", "",
+               ("18 is spoken of at []",)),
+        Change("the old number spoken of twice", REFUSALS, "## Each", "For 1 and 15 to 18 the place is 0.\n\n## Each",
+               ("18 is spoken of at [4, 15]",)),
+        Change("the old number spoken of elsewhere", "docs/FORMAT.md", "| 18", "Refused with 18.\n| 18",
+               ("18 is spoken of at [1]",)),
+        Change("a call with another number in the document", REFUSALS, "| 1 to 2 |", "| 1 |",
+               tuple(f"proved ([1, 2], [2]), in {REFUSALS} ([1], [2])" for call in ("first_cut", "listed"))),
+        Change("a call with another number in the theorem", THEOREMS, "(2 ∷ [])", "(3 ∷ [])",
+               tuple(f"proved ([1, 3], [2]), in {REFUSALS} ([1, 2], [2])" for call in ("first_cut", "listed"))),
+        Change("a call that no theorem has", THEOREMS, ", `listed`", "",
+               (f"proved None, in {REFUSALS} ([1, 2], [2])",)),
+        Change("no theorem", THEOREMS, "-gives", "-says",
+               ("no theorem says what a call gives", *[f"proved None, in {REFUSALS} ([1, 2], [2])"] * 2)),
     ),
 )

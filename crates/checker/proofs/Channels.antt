@@ -22,7 +22,7 @@ use Rattle.cut.specs.Listing.{onEach, Wrote}
 use Rattle.checker.specs.declared.Answer.{Answer}
 use Rattle.checker.specs.declared.Answer.the-variants as A
 use Rattle.checker.specs.Answered.{Answered, AnsweredListed}
-use Rattle.checker.specs.Answered.Answered.{runRefused, condRefused, few, none, tooEarly, found}
+use Rattle.checker.specs.Answered.Answered.{runRefused, condRefused, few, none, found}
 use Rattle.checker.specs.Answered.AnsweredListed.{fewRow, unlisted}
 use Rattle.checker.proofs.Rows.{take-written}
 
@@ -44,8 +44,7 @@ found-cut (runRefused x j d) e = never (cc)
 found-cut (condRefused x j r d) e = never (cc)
 found-cut (few b h d) e = never (cc)
 found-cut (none b h n d) e = never (cc)
-found-cut (tooEarly b h cut f n d) e = never (cc)
-found-cut (found b h cut f m w) e = record { row = cut; first = f; wrote = w; room = h }
+found-cut (found b h cut f w) e = record { row = cut; first = f; wrote = w; room = h }
 
 module _ {s ix : List ℕ} {head : Head} (w : Told s ix head) where
   -- the first places of the lent ones are the cut
@@ -74,5 +73,4 @@ module _ {s ix : List ℕ} {head : Head} (w : Told s ix head) where
       by-answer (condRefused x j r d) = unlisted (A.Refused x) (λ z. never (cc)) (λ b. let r′ = b .cond in never (cc)) (condRefused x j r refl) refl
       by-answer (few b h d) = fewRow b g refl refl
       by-answer (none b h n d) = absurd (omega (arith, h, e, some))
-      by-answer (tooEarly b h cut f n d) = absurd (omega (arith, h, e, some))
-      by-answer (found b h cut f m v) = absurd (omega (arith, h, e, some))
+      by-answer (found b h cut f v) = absurd (omega (arith, h, e, some))

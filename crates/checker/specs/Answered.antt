@@ -4,11 +4,10 @@ use mathlib.Core.Logic.{_≢_}
 use mathlib.Core.List.{List}
 use Prim.Native.Nat.{ℕ, _≤_, _<_}
 use lib.ListN.{length}
-use Rattle.model.specs.Cut.{ByMessage}
 use Rattle.model.specs.Clause.{Satisfies, First}
 use Rattle.record.specs.Record.{headOf}
 use Rattle.record.specs.Refusal.{number, refusal}
-use Rattle.record.specs.Refusal.Reason.{noRoom, early}
+use Rattle.record.specs.Refusal.Reason.{noRoom}
 use Rattle.record.specs.declared.File.the-variants.{Run}
 use Rattle.record.specs.declared.Refusal.{Refusal}
 use Rattle.run.specs.Said.{runIn}
@@ -27,15 +26,13 @@ pub record Both (s c : List ℕ) : Type 0 where
   pub run : RunAccepted s
   pub cond : ConditionAccepted s c
 
--- in this order: the run is refused, the condition is, the lent places are too few; none, the cut has a receive whose send is past it, found
+-- in this order: the run is refused, the condition is, the lent places are too few; none, found
 pub data Answered (s c lent lent′ : List ℕ) : Answer → Type 0 where
   runRefused : (x : Refusal) → Judged s (R.Refused x) → lent′ ≡ lent → Answered s c lent lent′ (A.Refused x)
   condRefused : (x : Refusal) → RunAccepted s → readOf c (headOf s) ≡ refused x → lent′ ≡ lent → Answered s c lent lent′ (A.Refused x)
   few : Both s c → length lent < headOf s .processes → lent′ ≡ lent → Answered s c lent lent′ (A.Refused (refusal Run (number noRoom) 0))
   none : Both s c → headOf s .processes ≤ length lent → ((d : List ℕ) → ¬ Satisfies (runIn s) (clausesIn c (headOf s)) d) → lent′ ≡ lent → Answered s c lent lent′ A.None
-  tooEarly : Both s c → headOf s .processes ≤ length lent → (cut : List ℕ) → First (runIn s) (clausesIn c (headOf s)) cut → ¬ ByMessage (runIn s) cut → lent′ ≡ lent
-      → Answered s c lent lent′ (A.Refused (refusal Run (number early) 0))
-  found : Both s c → headOf s .processes ≤ length lent → (cut : List ℕ) → First (runIn s) (clausesIn c (headOf s)) cut → ByMessage (runIn s) cut → Wrote cut lent lent′
+  found : Both s c → headOf s .processes ≤ length lent → (cut : List ℕ) → First (runIn s) (clausesIn c (headOf s)) cut → Wrote cut lent lent′
       → Answered s c lent lent′ A.Found
 
 -- the search with the channels of the cut that it finds: 15 also where fewer places are lent for these than the run has channels; then nothing changes. Only found writes

@@ -2,13 +2,11 @@
 use crate::Answer;
 use condition::ConditionReading;
 use condition::pass::read_condition;
-use cut::early::has_early;
 use cut::listing::count_each;
 use cut::listing::write;
 use judging::whole::judge_run;
 use record::File;
 use record::Head;
-use record::reasons::EARLY;
 use record::reasons::NO_ROOM;
 use record::reasons::refusal_of;
 use run::RunReading;
@@ -22,7 +20,7 @@ ghost use Rattle.search.specs.Prepared.{Prepared};
 ghost use Rattle.checker.specs.Answered.{Answered, AnsweredListed};
 ghost use Rattle.checker.specs.Inner.{Searching};
 
-// The cut is sought in a row of its own, so that no lent place changes unless it is found; 18 comes last.
+// The cut is sought in a row of its own, so that no lent place changes unless it is found.
 fn search_in(
     run: &[u8],
     index: &[u16],
@@ -38,9 +36,6 @@ fn search_in(
     let Outcome::Found = outcome else {
         return Answer::None;
     };
-    if has_early(run, index, cut) {
-        return Answer::Refused(refusal_of(File::Run, EARLY, 0));
-    }
     write(cut, lent);
     Answer::Found
 }

@@ -1,4 +1,3 @@
 pub mod First
 pub mod Low
-pub mod Received
 pub mod Writing

@@ -1,3 +1,2 @@
 pub mod Clocks
-pub mod Early
 pub mod Listing

@@ -14,8 +14,8 @@ use Rattle.model.specs.declared.Message.{Message}
 use Rattle.model.specs.declared.Event.the-variants.{Send, Receive}
 use Rattle.model.specs.Run.{Run, into, channel, paired, Paired}
 use Rattle.model.specs.Known.{Known}
-use Rattle.model.specs.Cut.{at, IsCut, Consistent, ByMessage, sends, waiting, add, upTo, between, inTransit}
-use Rattle.model.specs.Sent.{receives, sentUpTo, receivedUpTo}
+use Rattle.model.specs.Cut.{at, IsCut, Consistent, sends, waiting, add, upTo, between, inTransit}
+use Rattle.model.specs.Sent.{ByMessage, receives, sentUpTo, receivedUpTo}
 use Rattle.model.proofs.Pairing.{view, from-end, one-send, one-receive, sent-there}
 use Rattle.model.proofs.Messages.{arrived, sends-send, send-sends, receives-receive, receive-receives, arrived-at}
 use Rattle.model.proofs.Order.{consistent-by-message}

@@ -15,7 +15,8 @@ use Rattle.model.specs.declared.Event.{Event}
 use Rattle.model.specs.declared.Event.the-variants.{Start, Internal, Send, Receive}
 use Rattle.model.specs.Run.{Run, State, into, channel, count, processes, IsState, receiving, paired}
 use Rattle.model.specs.Known.{Known}
-use Rattle.model.specs.Cut.{at, IsCut, ByMessage, someUpTo}
+use Rattle.model.specs.Cut.{at, IsCut, someUpTo}
+use Rattle.model.specs.Sent.{ByMessage}
 use Rattle.model.specs.Clause.{everyOf, Clause, holds, Satisfies, First}
 use Rattle.model.specs.Linear.{Linear}
 use Rattle.model.specs.Last.{Last}

@@ -11,7 +11,8 @@ use lib.ListN.{length, getD}
 use lib.Seq.{ext-getD}
 use Rattle.model.specs.Run.{Run, state, channel, IsState, Paired}
 use Rattle.model.specs.Known.{Known}
-use Rattle.model.specs.Cut.{at, IsCut, ByMessage, between, inTransit}
+use Rattle.model.specs.Cut.{at, IsCut, between, inTransit}
+use Rattle.model.specs.Sent.{ByMessage}
 use Rattle.model.specs.Clause.{compares, Test, passes, Clause, holds, Satisfies, First}
 use Rattle.model.specs.Linear.{Linear}
 use Rattle.model.specs.Last.{Last}

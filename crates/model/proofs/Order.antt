@@ -10,7 +10,8 @@ use Rattle.model.proofs.Lists.{le-or-lt}
 use Rattle.model.proofs.Pairing.{view, apart, one-send, sent-there, received-there, process-there}
 use Rattle.model.specs.Run.{Paired, Run, count, processes, IsState}
 use Rattle.model.specs.Known.{Known}
-use Rattle.model.specs.Cut.{Before, ClockIs, ByMessage, Consistent, IsCut, at}
+use Rattle.model.specs.Cut.{Before, ClockIs, Consistent, IsCut, at}
+use Rattle.model.specs.Sent.{ByMessage}
 use Rattle.model.specs.Clocks.{ByClock, Clocks}
 use Rattle.model.specs.Cut.Before.{next, message, through}
 

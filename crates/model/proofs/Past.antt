@@ -12,7 +12,8 @@ use lib.Seq.{take-take, getD-take}
 use Rattle.model.specs.declared.Message.{Message}
 use Rattle.model.specs.Run.{Run, State, noState, nth, state, into, history, channel, processes, sending, paired}
 use Rattle.model.specs.Known.{Known}
-use Rattle.model.specs.Cut.{at, IsCut, ByMessage, onChannel, sends, waiting, upTo, between, inTransit}
+use Rattle.model.specs.Cut.{at, IsCut, onChannel, sends, waiting, upTo, between, inTransit}
+use Rattle.model.specs.Sent.{ByMessage}
 use Rattle.model.specs.Same.{SameUpTo}
 use Rattle.model.specs.Clause.{holds, compares, passes, Clause, Satisfies, First}
 use Rattle.model.specs.Linear.{Linear}

@@ -8,7 +8,6 @@ use Prim.Native.Nat.{ℕ, zero, suc, _≤_, _<_}
 use lib.Dec.{eqb}
 use lib.ListN.{length, getD}
 use Rattle.model.specs.declared.Message.{Message}
-use Rattle.model.specs.declared.Event.the-variants.{Receive}
 use Rattle.model.specs.Run.{Run, processes, into, channel, IsState, sending, paired, Paired}
 
 -- state k of process i is before state l of process j: the smallest transitive relation in which each state is before the next of its process,
@@ -43,10 +42,6 @@ pub record IsCut (r : Run) (cut : List ℕ) : Type 0 where
 -- no chosen state is before another
 unfoldable pub Consistent : Run → List ℕ → Type 0
 Consistent r cut = (i j : ℕ) → i ≢ j → ¬ Before r i (at cut i) j (at cut j)
-
--- each message received up to the cut was sent up to it
-unfoldable pub ByMessage : Run → List ℕ → Type 0
-ByMessage r cut = (j l : ℕ) (m : Message) → l ≤ at cut j → into r j l ≡ Receive m → (i : ℕ) × (k : ℕ) × Paired r i k j l × (k ≤ at cut i)
 
 abbrev pub onChannel : ℕ → Option Message → Option Message
 onChannel c none = none

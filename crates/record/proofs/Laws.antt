@@ -10,7 +10,7 @@ use lib.ListN.{length}
 use Rattle.record.specs.Inner.{statesPlace}
 use Rattle.record.specs.Refusal.{Reason, number, orIf, orElse}
 use Rattle.record.specs.Refusal.Reason.{tooLong, cutShort, wrongLength, wrongKind, limit, format, name, field, start}
-use Rattle.record.specs.Refusal.Reason.{side, pairing, circle, clock, notLinear, noRoom, wrongCut, noChannel, early}
+use Rattle.record.specs.Refusal.Reason.{side, pairing, circle, clock, notLinear, noRoom, wrongCut, noChannel}
 use Rattle.record.specs.declared.Record.{Record}
 use Rattle.record.specs.declared.Record.the-variants as R
 use Rattle.record.specs.Record.{lengthAt, kindAt, lengthOf, frameNo, headOf, due, openingNo, stepNo, channelFieldsAt, stateFieldsAt, recordAt}
@@ -45,7 +45,6 @@ some-number notLinear e = omega arith
 some-number noRoom e = omega arith
 some-number wrongCut e = omega arith
 some-number noChannel e = omega arith
-some-number early e = omega arith
 
 -- a chain that ends in 0 failed no test
 pub orIf-ok : (r : ℕ) (t : Bool) (n : Reason) → orIf r t (number n) ≡ 0 → (r ≡ 0) × (t ≡ false)

@@ -6,8 +6,9 @@ use Rattle.record.specs.declared.File.{File}
 use Rattle.record.specs.declared.Refusal.{Refusal}
 
 pub data Reason : Type 0 where
-  tooLong cutShort wrongLength wrongKind limit format name field start side pairing circle clock notLinear noRoom wrongCut noChannel early : Reason
+  tooLong cutShort wrongLength wrongKind limit format name field start side pairing circle clock notLinear noRoom wrongCut noChannel : Reason
 
+-- 18 isn't used again: older handbooks list it, and no file could give it
 abbrev pub number : Reason → ℕ
 number tooLong = 1
 number cutShort = 2
@@ -26,7 +27,6 @@ number notLinear = 14
 number noRoom = 15
 number wrongCut = 16
 number noChannel = 17
-number early = 18
 
 -- the number so far where it is a refusal, else n where the test says so; 0 is no refusal
 unfoldable pub orIf : ℕ → Bool → ℕ → ℕ

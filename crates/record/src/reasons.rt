@@ -38,8 +38,6 @@ pub const CUT: u16 = 16;
 
 pub const CHANNEL: u16 = 17;
 
-pub const EARLY: u16 = 18;
-
 // The number so far where it is a refusal; else n where the test says so.
 pub fn or_if(number: u16, test: bool, n: u16) -> u16
     ensures { λ r. ⌜ r ≡ orIf number test n ⌝ }

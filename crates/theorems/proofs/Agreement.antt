@@ -8,10 +8,10 @@ use native.Mathlib.Decide.{ℕ-discrete}
 use native.Mathlib.Omega.{arith}
 use lib.ListN.{length, replicate, length-append}
 use Rattle.model.proofs.Numbers.{never}
-use Rattle.model.specs.Cut.{ClockIs, IsCut, Consistent, ByMessage, inTransit}
+use Rattle.model.specs.Cut.{ClockIs, IsCut, Consistent, inTransit}
 use Rattle.model.specs.Clause.{Clause, First}
 use Rattle.model.specs.Clocks.{Clocks, ByClock}
-use Rattle.model.specs.Sent.{sentUpTo, receivedUpTo}
+use Rattle.model.specs.Sent.{ByMessage, sentUpTo, receivedUpTo}
 use Rattle.model.proofs.Conserved.{conserved}
 use Rattle.model.proofs.Lattice.{first-unique}
 use Rattle.model.proofs.Order.{clock-unique, consistent-by-message, consistent-by-clock}

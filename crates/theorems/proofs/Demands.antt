@@ -15,7 +15,6 @@ use Rattle.model.specs.Cut.{at, Consistent}
 use Rattle.model.specs.Same.{SameUpTo}
 use Rattle.model.specs.Clause.{Clause, holds, Satisfies, First}
 use Rattle.model.specs.Linear.{Linear}
-use Rattle.model.proofs.Order.{consistent-by-message}
 use Rattle.model.proofs.Decide.{has-first}
 use Rattle.model.proofs.Past.{nothing-past}
 use Rattle.model.proofs.Lattice.{fewer-clauses, no-earlier}
@@ -43,7 +42,7 @@ use Rattle.condition.specs.Accepted.{ConditionAccepted}
 use Rattle.condition.specs.Known.{clausesFor}
 use Rattle.cut.specs.Listing.{Wrote}
 use Rattle.checker.specs.Answered.{Both, Answered}
-use Rattle.checker.specs.Answered.Answered.{runRefused, condRefused, few, none, tooEarly, found}
+use Rattle.checker.specs.Answered.Answered.{runRefused, condRefused, few, none, found}
 use Rattle.judged.proofs.Acceptance.{accepted-read, accepted-known}
 use Rattle.checker.proofs.Rows.{take-written}
 use Rattle.theorems.proofs.Determined.{answered-one}
@@ -72,8 +71,7 @@ module _ {s c lent lent′ : List ℕ} where
   only-found-writes (condRefused y v r k) n = k
   only-found-writes (few v h k) n = k
   only-found-writes (none v h z k) n = k
-  only-found-writes (tooEarly v h cut f z k) n = k
-  only-found-writes (found v h cut f b w) n = absurd (n refl)
+  only-found-writes (found v h cut f w) n = absurd (n refl)
 
   -- "A refusal changes nothing in lent memory,"
   pub refusal-changes-nothing : {x : Refusal} → Answered s c lent lent′ (A.Refused x) → lent′ ≡ lent
@@ -114,8 +112,7 @@ module _ {s c lent lent′ : List ℕ} where
   named (condRefused y v r k) e = never (cc)
   named (few v h k) e = never (cc)
   named (none v h n k) e = never (cc)
-  named (tooEarly v h cut f n k) e = never (cc)
-  named (found v h cut f b w) e =
+  named (found v h cut f w) e =
       let same = take-written (headOf s .processes) (sym (f .satisfies .isCut .size ∙ size (v .run))) h w in
       record { both = v; room = h; first = subst (First (runIn s) (clausesFor s c)) (sym same) f; wrote = subst (λ cut. Wrote cut lent lent′) (sym same) w }
 
@@ -133,7 +130,7 @@ module _ {s c lent lent′ : List ℕ} where
 
   -- a first cut and room for it: found, with that cut in the places
   pub first-found : Both s c → headOf s .processes ≤ length lent → {cut : List ℕ} → First (runIn s) (clausesFor s c) cut → Wrote cut lent lent′ → Answered s c lent lent′ A.Found
-  first-found v h {cut} f w = found v h cut f (consistent-by-message (runIn s) (known (v .run)) cut (f .satisfies .isCut) .0 (f .satisfies .consistent)) w
+  first-found v h {cut} f w = found v h cut f w
 
   -- "None exactly if no such cut exists."
   pub none-exactly : Both s c → headOf s .processes ≤ length lent → {a : Answer} → Answered s c lent lent′ a
@@ -145,8 +142,7 @@ module _ {s c lent lent′ : List ℕ} where
       no-cut (condRefused y v r k) e = never (cc)
       no-cut (few v h k) e = never (cc)
       no-cut (none v h n k) e = n
-      no-cut (tooEarly v h cut f n k) e = never (cc)
-      no-cut (found v h cut f b w) e = never (cc)
+      no-cut (found v h cut f w) e = never (cc)
 
 -- a cut ahead of the other places
 pub written : (cut lent : List ℕ) → length cut ≤ length lent → Wrote cut lent (cut ++ drop (length cut) lent)

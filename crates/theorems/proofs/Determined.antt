@@ -26,7 +26,7 @@ use Rattle.questions.specs.declared.Verdict.the-variants as W
 use Rattle.judged.specs.Accepted.{RunAccepted}
 use Rattle.cut.specs.Listing.{Wrote}
 use Rattle.checker.specs.Answered.{Answered, AnsweredListed}
-use Rattle.checker.specs.Answered.Answered.{runRefused, condRefused, few, none, tooEarly, found}
+use Rattle.checker.specs.Answered.Answered.{runRefused, condRefused, few, none, found}
 use Rattle.questions.specs.Questions.{AskedConsistent, AskedMessages, AskedEach, AskedSatisfies}
 use Rattle.answers.specs.declared.Made.{Made}
 use Rattle.answers.specs.Made.{MadeOf}
@@ -60,38 +60,27 @@ module _ {s : List ℕ} where
   answered-one (runRefused x v e) (condRefused x′ v′ r′ e′) = absurd (not-both v v′)
   answered-one (runRefused x v e) (few v′ h′ e′) = absurd (not-both v (v′ .run))
   answered-one (runRefused x v e) (none v′ h′ n′ e′) = absurd (not-both v (v′ .run))
-  answered-one (runRefused x v e) (tooEarly v′ h′ cut′ f′ n′ e′) = absurd (not-both v (v′ .run))
-  answered-one (runRefused x v e) (found v′ h′ cut′ f′ b′ g′) = absurd (not-both v (v′ .run))
+  answered-one (runRefused x v e) (found v′ h′ cut′ f′ g′) = absurd (not-both v (v′ .run))
   answered-one (condRefused x v r e) (runRefused x′ v′ e′) = absurd (not-both v′ v)
   answered-one (condRefused x v r e) (condRefused x′ v′ r′ e′) = (ap A.Refused (refused-once r r′), e ∙ sym e′)
   answered-one (condRefused x v r e) (few v′ h′ e′) = absurd (not-read r (v′ .cond))
   answered-one (condRefused x v r e) (none v′ h′ n′ e′) = absurd (not-read r (v′ .cond))
-  answered-one (condRefused x v r e) (tooEarly v′ h′ cut′ f′ n′ e′) = absurd (not-read r (v′ .cond))
-  answered-one (condRefused x v r e) (found v′ h′ cut′ f′ b′ g′) = absurd (not-read r (v′ .cond))
+  answered-one (condRefused x v r e) (found v′ h′ cut′ f′ g′) = absurd (not-read r (v′ .cond))
   answered-one (few v h e) (runRefused x′ v′ e′) = absurd (not-both v′ (v .run))
   answered-one (few v h e) (condRefused x′ v′ r′ e′) = absurd (not-read r′ (v .cond))
   answered-one (few v h e) (few v′ h′ e′) = (refl, e ∙ sym e′)
   answered-one (few v h e) (none v′ h′ n′ e′) = absurd (omega (arith, h, h′))
-  answered-one (few v h e) (tooEarly v′ h′ cut′ f′ n′ e′) = absurd (omega (arith, h, h′))
-  answered-one (few v h e) (found v′ h′ cut′ f′ b′ g′) = absurd (omega (arith, h, h′))
+  answered-one (few v h e) (found v′ h′ cut′ f′ g′) = absurd (omega (arith, h, h′))
   answered-one (none v h n e) (runRefused x′ v′ e′) = absurd (not-both v′ (v .run))
   answered-one (none v h n e) (condRefused x′ v′ r′ e′) = absurd (not-read r′ (v .cond))
   answered-one (none v h n e) (few v′ h′ e′) = absurd (omega (arith, h, h′))
   answered-one (none v h n e) (none v′ h′ n′ e′) = (refl, e ∙ sym e′)
-  answered-one (none v h n e) (tooEarly v′ h′ cut′ f′ n′ e′) = absurd (n cut′ (f′ .satisfies))
-  answered-one (none v h n e) (found v′ h′ cut′ f′ b′ g′) = absurd (n cut′ (f′ .satisfies))
-  answered-one (tooEarly v h cut f n e) (runRefused x′ v′ e′) = absurd (not-both v′ (v .run))
-  answered-one (tooEarly v h cut f n e) (condRefused x′ v′ r′ e′) = absurd (not-read r′ (v .cond))
-  answered-one (tooEarly v h cut f n e) (few v′ h′ e′) = absurd (omega (arith, h, h′))
-  answered-one (tooEarly v h cut f n e) (none v′ h′ n′ e′) = absurd (n′ cut (f .satisfies))
-  answered-one (tooEarly v h cut f n e) (tooEarly v′ h′ cut′ f′ n′ e′) = (refl, e ∙ sym e′)
-  answered-one (tooEarly v h cut f n e) (found v′ h′ cut′ f′ b′ g′) = absurd (n (rw (first-unique f f′) b′))
-  answered-one (found v h cut f b g) (runRefused x′ v′ e′) = absurd (not-both v′ (v .run))
-  answered-one (found v h cut f b g) (condRefused x′ v′ r′ e′) = absurd (not-read r′ (v .cond))
-  answered-one (found v h cut f b g) (few v′ h′ e′) = absurd (omega (arith, h, h′))
-  answered-one (found v h cut f b g) (none v′ h′ n′ e′) = absurd (n′ cut (f .satisfies))
-  answered-one (found v h cut f b g) (tooEarly v′ h′ cut′ f′ n′ e′) = absurd (n′ (rw (first-unique f′ f) b))
-  answered-one (found v h cut f b g) (found v′ h′ cut′ f′ b′ g′) = (refl, wrote-one g (rw (first-unique f f′) g′))
+  answered-one (none v h n e) (found v′ h′ cut′ f′ g′) = absurd (n cut′ (f′ .satisfies))
+  answered-one (found v h cut f g) (runRefused x′ v′ e′) = absurd (not-both v′ (v .run))
+  answered-one (found v h cut f g) (condRefused x′ v′ r′ e′) = absurd (not-read r′ (v .cond))
+  answered-one (found v h cut f g) (few v′ h′ e′) = absurd (omega (arith, h, h′))
+  answered-one (found v h cut f g) (none v′ h′ n′ e′) = absurd (n′ cut (f .satisfies))
+  answered-one (found v h cut f g) (found v′ h′ cut′ f′ g′) = (refl, wrote-one g (rw (first-unique f f′) g′))
 
   pub listed-one : {c lent l m row q r : List ℕ} {a b : Answer} → AnsweredListed s c lent l row q a → AnsweredListed s c lent m row r b → (a ≡ b) × (l ≡ m) × (q ≡ r)
   listed-one (AnsweredListed.fewRow v h d e) (AnsweredListed.fewRow v′ h′ d′ e′) = (refl, d ∙ sym d′, e ∙ sym e′)

@@ -1,17 +1,16 @@
--- What is refused, and with which number and file: a condition that isn't linear as such, nothing with 18, and each file with its own numbers.
+-- What is refused, and with which number and file: a condition that isn't linear as such, each file with its own numbers, and each call with no others.
 use mathlib.Core.Path.{_≡_, refl, sym, ap, _∙_, subst}
 use mathlib.Core.Logic.{_⊎_, inl, inr, ⊎-elim}
 use mathlib.Core.Bool.{Bool, true, false, not, cond}
-use mathlib.Core.List.{List, [], _∷_, _++_, List·Memᴰ, List·Memᴰ·head, List·Memᴰ·tail, Memᴰ·append-left}
+use mathlib.Core.List.{List, [], _∷_, _++_, List·Memᴰ, List·Memᴰ·head, List·Memᴰ·tail, Memᴰ·append-left, Memᴰ·append-right}
 use Prim.Native.Nat.{ℕ, zero, suc, _+_, _≤_, _<_}
 use native.Mathlib.Omega.{arith}
 use borrow.Author.Tests.{eqb-true, eqb-false}
 use lib.Dec.{T, eqb, eqb→eq, ltb}
 use lib.ListN.{length}
 use Rattle.model.specs.Clause.{someOf, everyOf}
-use Rattle.model.proofs.Lists.{le-or-lt, eq→eqb, or-T, every-mem}
+use Rattle.model.proofs.Lists.{le-or-lt, or-T, every-mem}
 use Rattle.model.proofs.Numbers.{never}
-use Rattle.model.proofs.Order.{consistent-by-message}
 use Rattle.record.specs.Refusal.{number, refusal}
 use Rattle.record.specs.Refusal.Reason.{wrongKind}
 use Rattle.record.specs.Pass.{Pass, ended, readFile}
@@ -25,7 +24,6 @@ use Rattle.record.specs.declared.Head.{Head}
 use Rattle.record.specs.declared.Refusal.{Refusal}
 use Rattle.record.proofs.Pass.{Here, here-start, here-stopped, here-judged, here-end, here-more, read-short, read-long}
 use Rattle.run.specs.Read as R
-use Rattle.run.specs.Said.{runIn}
 use Rattle.run.proofs.Accepted.{record-stepped}
 use Rattle.judged.specs.Judged.{Judged}
 use Rattle.judged.specs.Judged.Judged.{byPass, byPairing, byCircle, byClock, wholly}
@@ -44,10 +42,17 @@ use Rattle.condition.proofs.Laws.{item-stepped}
 use Rattle.checker.specs.declared.Answer.{Answer}
 use Rattle.checker.specs.declared.Answer.the-variants as A
 use Rattle.checker.specs.Answered.{Answered, AnsweredListed}
-use Rattle.checker.specs.Answered.Answered.{runRefused, condRefused, few, none, tooEarly, found}
+use Rattle.checker.specs.Answered.Answered.{runRefused, condRefused, few, none, found}
+use Rattle.questions.specs.declared.Count.{Count}
+use Rattle.questions.specs.declared.Count.the-variants as M
+use Rattle.questions.specs.declared.Counts.{Counts}
+use Rattle.questions.specs.declared.Counts.the-variants as N
+use Rattle.questions.specs.declared.Verdict.{Verdict}
+use Rattle.questions.specs.declared.Verdict.the-variants as Y
+use Rattle.questions.specs.Questions.{AskedConsistent, AskedMessages, AskedEach, AskedSatisfies}
 use Rattle.theorems.specs.Refusals.{RefusalOf, runNumbers, conditionNumbers, Gives}
 use Rattle.theorems.proofs.Determined.{refused-once}
-use Rattle.theorems.proofs.Demands.{condition-refused-next, known, not-linear-refused}
+use Rattle.theorems.proofs.Demands.{condition-refused-next, not-linear-refused}
 use Rattle.theorems.proofs.Chains.{step, condition-step, record-judged, item-judged}
 
 -- ---- a condition that isn't linear
@@ -191,58 +196,96 @@ condition-refusal c h x e =
     (λ at k r. item-judged (Among ns) none-among h r (among ns tt) (among ns tt) (among ns tt) (among ns tt))
     (λ at next k r g. let d = item-stepped c at (k .0) next r g in (d .further, d .within)) x e
 
--- ---- which numbers the search can give
+-- ---- which numbers each public call can give
 
 more : {f : File} {ns : List ℕ} (ms : List ℕ) {x : Refusal} → RefusalOf f ns x → RefusalOf f (ns ++ ms) x
 more ms w = record { number = Memᴰ·append-left ms (w .number); file = w .file }
 
-abbrev Sought : Refusal → Type 0
-Sought = Gives (runNumbers ++ (15 ∷ [])) conditionNumbers
+-- what a call gives: the run's refusals with its own, and the condition's
+module _ (own of-condition : List ℕ) where
+  abbrev Given : Refusal → Type 0
+  Given = Gives (runNumbers ++ own) of-condition
 
-search-refused : {s c lent lent′ : List ℕ} {a : Answer} (x : Refusal) → Answered s c lent lent′ a → a ≡ A.Refused x → Sought x
-search-refused x (runRefused y j d) e = let same : y ≡ x = cc in subst Sought same (inl (more (15 ∷ []) (run-refusal j)))
-search-refused {s} {c} x (condRefused y j d r) e = let same : y ≡ x = cc in subst Sought same (inr (condition-refusal c (headOf s) y d))
-search-refused x (few b h d) e =
-    let same : refusal Run 15 0 ≡ x = cc in
-    subst Sought same (inl (refusal-of Run 15 0 false (in-list (runNumbers ++ (15 ∷ [])) tt)))
+  of-run : {s : List ℕ} {x y : Refusal} → Judged s (W.Refused y) → y ≡ x → Given x
+  of-run j same = subst Given same (inl (more own (run-refusal j)))
+
+  of-call : (n : ℕ) {x : Refusal} → List·Memᴰ n own → refusal Run n 0 ≡ x → Given x
+  of-call n m same = subst Given same (inl (refusal-of Run n 0 false (Memᴰ·append-right runNumbers m)))
+
+of-the-condition : (own c : List ℕ) (h : Head) {x y : Refusal} → D.readOf c h ≡ refused y → y ≡ x → Given own conditionNumbers x
+of-the-condition own c h {y = y} d same = subst (Given own conditionNumbers) same (inr (condition-refusal c h y d))
+
+search-refused : {s c lent lent′ : List ℕ} {a : Answer} (x : Refusal) → Answered s c lent lent′ a → a ≡ A.Refused x → Gives (runNumbers ++ (15 ∷ [])) conditionNumbers x
+search-refused x (runRefused y j d) e = of-run _ _ j (cc)
+search-refused x (condRefused y j d r) e = of-the-condition _ _ _ d (cc)
+search-refused x (few b h d) e = of-call _ _ 15 (in-list _ tt) (cc)
 search-refused x (none b h n d) e = never (cc)
-search-refused {s} x (tooEarly b h cut f n d) e =
-    absurd (n (consistent-by-message (runIn s) (known (b .run)) cut (f .satisfies .isCut) .0 (f .satisfies .consistent)))
-search-refused x (found b h cut f m w) e = never (cc)
+search-refused x (found b h cut f w) e = never (cc)
 
-listed-refused : {s c lent lent′ row row′ : List ℕ} {a : Answer} (x : Refusal) → AnsweredListed s c lent lent′ row row′ a → a ≡ A.Refused x → Sought x
-listed-refused x (AnsweredListed.fewRow b h d r) e =
-    let same : refusal Run 15 0 ≡ x = cc in
-    subst Sought same (inl (refusal-of Run 15 0 false (in-list (runNumbers ++ (15 ∷ [])) tt)))
+listed-refused : {s c lent lent′ row row′ : List ℕ} {a : Answer} (x : Refusal) → AnsweredListed s c lent lent′ row row′ a → a ≡ A.Refused x
+    → Gives (runNumbers ++ (15 ∷ [])) conditionNumbers x
+listed-refused x (AnsweredListed.fewRow b h d r) e = of-call _ _ 15 (in-list _ tt) (cc)
 listed-refused x (AnsweredListed.unlisted a n h w r) e = search-refused x w e
 listed-refused x (AnsweredListed.listed h w cut f v) e = never (cc)
 
-module _ {s c lent lent′ : List ℕ} {x : Refusal} where
-  -- of the run 1 to 13 and 15, of the condition 1 to 5, 7, 8 and 14
-  pub search-gives : Answered s c lent lent′ (A.Refused x) → Gives (runNumbers ++ (15 ∷ [])) conditionNumbers x
-  search-gives w = search-refused x w refl
+consistent-refused : {s cut : List ℕ} {a : Verdict} (x : Refusal) → AskedConsistent s cut a → a ≡ Y.Refused x → Gives (runNumbers ++ (16 ∷ [])) [] x
+consistent-refused x (AskedConsistent.runRefused y j) e = of-run _ _ j (cc)
+consistent-refused x (AskedConsistent.notCut j n) e = of-call _ _ 16 (in-list _ tt) (cc)
+consistent-refused x (AskedConsistent.yes j i t) e = never (cc)
+consistent-refused x (AskedConsistent.no j i t) e = never (cc)
 
-  pub listed-gives : {row row′ : List ℕ} → AnsweredListed s c lent lent′ row row′ (A.Refused x) → Gives (runNumbers ++ (15 ∷ [])) conditionNumbers x
-  listed-gives w = listed-refused x w refl
+messages-refused : {s cut : List ℕ} {channel : ℕ} {a : Count} (x : Refusal) → AskedMessages s cut channel a → a ≡ M.Refused x → Gives (runNumbers ++ (16 ∷ 17 ∷ [])) [] x
+messages-refused x (AskedMessages.runRefused y j) e = of-run _ _ j (cc)
+messages-refused x (AskedMessages.notCut j n) e = of-call _ _ 16 (in-list _ tt) (cc)
+messages-refused x (AskedMessages.noSuchChannel j i h) e = of-call _ _ 17 (in-list _ tt) (cc)
+messages-refused x (AskedMessages.messages j i h) e = never (cc)
 
--- a number that is in neither list is given by nobody
-given-none : (m : ℕ) {ns ms : List ℕ} {x : Refusal} → T (everyOf (λ n. not (eqb n m)) ns) → T (everyOf (λ n. not (eqb n m)) ms) → Gives ns ms x → x .number ≡ m → ⊥
-given-none m {ns} {ms} {x} t u w e = ⊎-elim (λ v. other t (v .number)) (λ v. other u (v .number)) w
-  where
-    not-both : (b : Bool) → T (not b) → T b → ⊥
-    not-both true d t = d
-    not-both false d t = t
+each-refused : {s cut lent lent′ : List ℕ} {a : Counts} (x : Refusal) → AskedEach s cut lent lent′ a → a ≡ N.Refused x → Gives (runNumbers ++ (15 ∷ 16 ∷ [])) [] x
+each-refused x (AskedEach.runRefused y j d) e = of-run _ _ j (cc)
+each-refused x (AskedEach.notCut j n d) e = of-call _ _ 16 (in-list _ tt) (cc)
+each-refused x (AskedEach.few j i h d) e = of-call _ _ 15 (in-list _ tt) (cc)
+each-refused x (AskedEach.listed j i h w) e = never (cc)
 
-    other : {ks : List ℕ} → T (everyOf (λ n. not (eqb n m)) ks) → List·Memᴰ (x .number) ks → ⊥
-    other t i = not-both (eqb (x .number) m) (every-mem (λ n. not (eqb n m)) t i) (eq→eqb _ _ e)
+satisfies-refused : {s c cut : List ℕ} {a : Verdict} (x : Refusal) → AskedSatisfies s c cut a → a ≡ Y.Refused x → Gives (runNumbers ++ (16 ∷ [])) conditionNumbers x
+satisfies-refused x (AskedSatisfies.runRefused y j) e = of-run _ _ j (cc)
+satisfies-refused x (AskedSatisfies.conditionRefused y j d) e = of-the-condition _ _ _ d (cc)
+satisfies-refused x (AskedSatisfies.notCut j d n) e = of-call _ _ 16 (in-list _ tt) (cc)
+satisfies-refused x (AskedSatisfies.yes j d t) e = never (cc)
+satisfies-refused x (AskedSatisfies.no j d i t) e = never (cc)
+
+-- `first_cut`
+pub search-gives : {s c lent lent′ : List ℕ} {x : Refusal} → Answered s c lent lent′ (A.Refused x) → Gives (runNumbers ++ (15 ∷ [])) conditionNumbers x
+search-gives w = search-refused _ w refl
+
+-- `first_cut_listed`
+pub listed-gives : {s c lent lent′ row row′ : List ℕ} {x : Refusal} → AnsweredListed s c lent lent′ row row′ (A.Refused x) → Gives (runNumbers ++ (15 ∷ [])) conditionNumbers x
+listed-gives w = listed-refused _ w refl
+
+-- `is_consistent`
+pub consistent-gives : {s cut : List ℕ} {x : Refusal} → AskedConsistent s cut (Y.Refused x) → Gives (runNumbers ++ (16 ∷ [])) [] x
+consistent-gives w = consistent-refused _ w refl
+
+-- `messages_on`
+pub messages-gives : {s cut : List ℕ} {channel : ℕ} {x : Refusal} → AskedMessages s cut channel (M.Refused x) → Gives (runNumbers ++ (16 ∷ 17 ∷ [])) [] x
+messages-gives w = messages-refused _ w refl
+
+-- `messages_on_each`
+pub each-gives : {s cut lent lent′ : List ℕ} {x : Refusal} → AskedEach s cut lent lent′ (N.Refused x) → Gives (runNumbers ++ (15 ∷ 16 ∷ [])) [] x
+each-gives w = each-refused _ w refl
+
+-- `satisfies`
+pub satisfies-gives : {s c cut : List ℕ} {x : Refusal} → AskedSatisfies s c cut (Y.Refused x) → Gives (runNumbers ++ (16 ∷ [])) conditionNumbers x
+satisfies-gives w = satisfies-refused _ w refl
+
+-- one step of the reader: `first`, `read_at`, `next`
+pub step-gives : (s : List ℕ) (at : ℕ) {x : Refusal} → stepAt s at ≡ S.Refused x → Gives (2 ∷ 3 ∷ 4 ∷ 6 ∷ []) [] x
+step-gives s at {x} e =
+    let ns : List ℕ = 2 ∷ 3 ∷ 4 ∷ 6 ∷ [] in
+    inl (step-refused ns s at x (step (Among ns) none-among s at (among ns tt) (among ns tt) (among ns tt) (among ns tt)) (ap R.given e))
 
 -- "No refusal has number 0": and so no answer has
 pub answer-numbered : {s c lent lent′ : List ℕ} {a : Answer} (x : Refusal) → Answered s c lent lent′ a → a ≡ A.Refused x → x .number ≡ 0 → ⊥
-answer-numbered x w e = given-none 0 tt tt (search-refused x w e)
-
--- "No run and condition lead to 18, because a found cut is consistent": whatever the bytes and the lent places, neither call of the search gives it
-pub never-18 : {s c lent lent′ : List ℕ} {x : Refusal} → Answered s c lent lent′ (A.Refused x) → x .number ≡ 18 → ⊥
-never-18 w = given-none 18 tt tt (search-gives w)
-
-pub listed-never-18 : {s c lent lent′ row row′ : List ℕ} {x : Refusal} → AnsweredListed s c lent lent′ row row′ (A.Refused x) → x .number ≡ 18 → ⊥
-listed-never-18 w = given-none 18 tt tt (listed-gives w)
+answer-numbered x w e z = ⊎-elim (λ v. other-than-0 tt (v .number)) (λ v. other-than-0 tt (v .number)) (search-refused x w e)
+  where
+    other-than-0 : {ns : List ℕ} → T (everyOf (λ n. not (eqb n 0)) ns) → List·Memᴰ (x .number) ns → ⊥
+    other-than-0 t i = subst (λ n. T (not (eqb n 0))) z (every-mem (λ n. not (eqb n 0)) t i)

@@ -1,4 +1,4 @@
--- `search_in` meets its contract: at each way out, what the search and the test of 18 gave.
+-- `search_in` meets its contract: at each way out, what the search gave.
 use borrow.Author.Needs.{needs}
 use native.Mathlib.Omega.{arith}
 use mathlib.Core.Path.{refl}
@@ -10,7 +10,7 @@ use Rattle.run.proofs.Listed.{processes-are}
 use Rattle.condition.specs.Known.{clausesFor}
 use Rattle.checker.specs.Inner.{Searching}
 use Rattle.checker.specs.Answered.{Both}
-use Rattle.checker.specs.Answered.Answered.{none, tooEarly, found}
+use Rattle.checker.specs.Answered.Answered.{none, found}
 use Rattle.search.proofs.Prepared.{given, searched-found, searched-none}
 use Rattle.checker.proofs.finding.search_in.Statement.{statement}
 use Rattle.checker.proofs.finding.search_in.Tie as tie
@@ -40,31 +40,20 @@ returns c =
     let r = entry s .pre in
     none (both r) (r .room) (searched-none (r .prepared) (s .search .ensures) (c .enum-told2 .given .1)) refl
 
-has-early-requires : tie.Need-has-early-requires
-has-early-requires c κs = let t = c .before in (entry (sought t) .pre .prepared .index, first t .satisfies .isCut)
-
-returns-2 : tie.Need-returns-2
-returns-2 c =
-    let t = c .before .before .before .before in
-    let r = entry (sought t) .pre in
-    rw (c .refusal-of .ensures) (tooEarly (both r) (r .room) _ (first t) (c .before .before .has-early .ensures .early (c .before .if1 .taken)) refl)
-
 write-requires : tie.Need-write-requires
 write-requires c κs =
-    let t = c .before .before .before .before .before in
+    let t = c .before .before in
     let r = entry (sought t) .pre in
     omega (arith, first t .satisfies .isCut .size, processes-are _ (r .prepared .index .listed .read), r .room)
 
-returns-3 : tie.Need-returns-3
-returns-3 c =
-    let e = c .before .before .before .before .before in
-    let t = e .before .before .before in
+returns-2 : tie.Need-returns-2
+returns-2 c =
+    let t = c .before .before .before .before .before in
     let r = entry (sought t) .pre in
-    found (both r) (r .room) _ (first t) (e .before .has-early .ensures .none (e .if1 .left)) (c .before .before .write .ensures)
+    found (both r) (r .room) _ (first t) (c .before .before .write .ensures)
 
 pub search-in-spec : {M : Type 1} → statement M
 search-in-spec =
     tie.close (tie.spec
-    search-requires (λ c. search needs) (λ c. search needs) (λ c. search needs) returns has-early-requires
-    (λ c κs. search needs) (λ c. search needs) returns-2 write-requires (λ c. search needs) (λ c. search needs)
-    returns-3)
+    search-requires (λ c. search needs) (λ c. search needs) (λ c. search needs) returns write-requires
+    (λ c. search needs) (λ c. search needs) returns-2)
