@@ -215,67 +215,48 @@ module _ (own of-condition : List ℕ) where
 of-the-condition : (own c : List ℕ) (h : Head) {x y : Refusal} → D.readOf c h ≡ refused y → y ≡ x → Given own conditionNumbers x
 of-the-condition own c h {y = y} d same = subst (Given own conditionNumbers) same (inr (condition-refusal c h y d))
 
-search-refused : {s c lent lent′ : List ℕ} {a : Answer} (x : Refusal) → Answered s c lent lent′ a → a ≡ A.Refused x → Gives (runNumbers ++ (15 ∷ [])) conditionNumbers x
-search-refused x (runRefused y j d) e = of-run _ _ j (cc)
-search-refused x (condRefused y j d r) e = of-the-condition _ _ _ d (cc)
-search-refused x (few b h d) e = of-call _ _ 15 (in-list _ tt) (cc)
-search-refused x (none b h n d) e = never (cc)
-search-refused x (found b h cut f w) e = never (cc)
-
-listed-refused : {s c lent lent′ row row′ : List ℕ} {a : Answer} (x : Refusal) → AnsweredListed s c lent lent′ row row′ a → a ≡ A.Refused x
-    → Gives (runNumbers ++ (15 ∷ [])) conditionNumbers x
-listed-refused x (AnsweredListed.fewRow b h d r) e = of-call _ _ 15 (in-list _ tt) (cc)
-listed-refused x (AnsweredListed.unlisted a n h w r) e = search-refused x w e
-listed-refused x (AnsweredListed.listed h w cut f v) e = never (cc)
-
-consistent-refused : {s cut : List ℕ} {a : Verdict} (x : Refusal) → AskedConsistent s cut a → a ≡ Y.Refused x → Gives (runNumbers ++ (16 ∷ [])) [] x
-consistent-refused x (AskedConsistent.runRefused y j) e = of-run _ _ j (cc)
-consistent-refused x (AskedConsistent.notCut j n) e = of-call _ _ 16 (in-list _ tt) (cc)
-consistent-refused x (AskedConsistent.yes j i t) e = never (cc)
-consistent-refused x (AskedConsistent.no j i t) e = never (cc)
-
-messages-refused : {s cut : List ℕ} {channel : ℕ} {a : Count} (x : Refusal) → AskedMessages s cut channel a → a ≡ M.Refused x → Gives (runNumbers ++ (16 ∷ 17 ∷ [])) [] x
-messages-refused x (AskedMessages.runRefused y j) e = of-run _ _ j (cc)
-messages-refused x (AskedMessages.notCut j n) e = of-call _ _ 16 (in-list _ tt) (cc)
-messages-refused x (AskedMessages.noSuchChannel j i h) e = of-call _ _ 17 (in-list _ tt) (cc)
-messages-refused x (AskedMessages.messages j i h) e = never (cc)
-
-each-refused : {s cut lent lent′ : List ℕ} {a : Counts} (x : Refusal) → AskedEach s cut lent lent′ a → a ≡ N.Refused x → Gives (runNumbers ++ (15 ∷ 16 ∷ [])) [] x
-each-refused x (AskedEach.runRefused y j d) e = of-run _ _ j (cc)
-each-refused x (AskedEach.notCut j n d) e = of-call _ _ 16 (in-list _ tt) (cc)
-each-refused x (AskedEach.few j i h d) e = of-call _ _ 15 (in-list _ tt) (cc)
-each-refused x (AskedEach.listed j i h w) e = never (cc)
-
-satisfies-refused : {s c cut : List ℕ} {a : Verdict} (x : Refusal) → AskedSatisfies s c cut a → a ≡ Y.Refused x → Gives (runNumbers ++ (16 ∷ [])) conditionNumbers x
-satisfies-refused x (AskedSatisfies.runRefused y j) e = of-run _ _ j (cc)
-satisfies-refused x (AskedSatisfies.conditionRefused y j d) e = of-the-condition _ _ _ d (cc)
-satisfies-refused x (AskedSatisfies.notCut j d n) e = of-call _ _ 16 (in-list _ tt) (cc)
-satisfies-refused x (AskedSatisfies.yes j d t) e = never (cc)
-satisfies-refused x (AskedSatisfies.no j d i t) e = never (cc)
-
 -- `first_cut`
-pub search-gives : {s c lent lent′ : List ℕ} {x : Refusal} → Answered s c lent lent′ (A.Refused x) → Gives (runNumbers ++ (15 ∷ [])) conditionNumbers x
-search-gives w = search-refused _ w refl
+pub search-gives : {s c lent lent′ : List ℕ} {a : Answer} (x : Refusal) → Answered s c lent lent′ a → a ≡ A.Refused x → Gives (runNumbers ++ (15 ∷ [])) conditionNumbers x
+search-gives x (runRefused y j d) e = of-run _ _ j (cc)
+search-gives x (condRefused y j d r) e = of-the-condition _ _ _ d (cc)
+search-gives x (few b h d) e = of-call _ _ 15 (in-list _ tt) (cc)
+search-gives x (none b h n d) e = never (cc)
+search-gives x (found b h cut f w) e = never (cc)
 
 -- `first_cut_listed`
-pub listed-gives : {s c lent lent′ row row′ : List ℕ} {x : Refusal} → AnsweredListed s c lent lent′ row row′ (A.Refused x) → Gives (runNumbers ++ (15 ∷ [])) conditionNumbers x
-listed-gives w = listed-refused _ w refl
+pub listed-gives : {s c lent lent′ row row′ : List ℕ} {a : Answer} (x : Refusal) → AnsweredListed s c lent lent′ row row′ a → a ≡ A.Refused x → Gives (runNumbers ++ (15 ∷ [])) conditionNumbers x
+listed-gives x (AnsweredListed.fewRow b h d r) e = of-call _ _ 15 (in-list _ tt) (cc)
+listed-gives x (AnsweredListed.unlisted a n h w r) e = search-gives x w e
+listed-gives x (AnsweredListed.listed h w cut f v) e = never (cc)
 
 -- `is_consistent`
-pub consistent-gives : {s cut : List ℕ} {x : Refusal} → AskedConsistent s cut (Y.Refused x) → Gives (runNumbers ++ (16 ∷ [])) [] x
-consistent-gives w = consistent-refused _ w refl
+pub consistent-gives : {s cut : List ℕ} {a : Verdict} (x : Refusal) → AskedConsistent s cut a → a ≡ Y.Refused x → Gives (runNumbers ++ (16 ∷ [])) [] x
+consistent-gives x (AskedConsistent.runRefused y j) e = of-run _ _ j (cc)
+consistent-gives x (AskedConsistent.notCut j n) e = of-call _ _ 16 (in-list _ tt) (cc)
+consistent-gives x (AskedConsistent.yes j i t) e = never (cc)
+consistent-gives x (AskedConsistent.no j i t) e = never (cc)
 
 -- `messages_on`
-pub messages-gives : {s cut : List ℕ} {channel : ℕ} {x : Refusal} → AskedMessages s cut channel (M.Refused x) → Gives (runNumbers ++ (16 ∷ 17 ∷ [])) [] x
-messages-gives w = messages-refused _ w refl
+pub messages-gives : {s cut : List ℕ} {channel : ℕ} {a : Count} (x : Refusal) → AskedMessages s cut channel a → a ≡ M.Refused x → Gives (runNumbers ++ (16 ∷ 17 ∷ [])) [] x
+messages-gives x (AskedMessages.runRefused y j) e = of-run _ _ j (cc)
+messages-gives x (AskedMessages.notCut j n) e = of-call _ _ 16 (in-list _ tt) (cc)
+messages-gives x (AskedMessages.noSuchChannel j i h) e = of-call _ _ 17 (in-list _ tt) (cc)
+messages-gives x (AskedMessages.messages j i h) e = never (cc)
 
 -- `messages_on_each`
-pub each-gives : {s cut lent lent′ : List ℕ} {x : Refusal} → AskedEach s cut lent lent′ (N.Refused x) → Gives (runNumbers ++ (15 ∷ 16 ∷ [])) [] x
-each-gives w = each-refused _ w refl
+pub each-gives : {s cut lent lent′ : List ℕ} {a : Counts} (x : Refusal) → AskedEach s cut lent lent′ a → a ≡ N.Refused x → Gives (runNumbers ++ (15 ∷ 16 ∷ [])) [] x
+each-gives x (AskedEach.runRefused y j d) e = of-run _ _ j (cc)
+each-gives x (AskedEach.notCut j n d) e = of-call _ _ 16 (in-list _ tt) (cc)
+each-gives x (AskedEach.few j i h d) e = of-call _ _ 15 (in-list _ tt) (cc)
+each-gives x (AskedEach.listed j i h w) e = never (cc)
 
 -- `satisfies`
-pub satisfies-gives : {s c cut : List ℕ} {x : Refusal} → AskedSatisfies s c cut (Y.Refused x) → Gives (runNumbers ++ (16 ∷ [])) conditionNumbers x
-satisfies-gives w = satisfies-refused _ w refl
+pub satisfies-gives : {s c cut : List ℕ} {a : Verdict} (x : Refusal) → AskedSatisfies s c cut a → a ≡ Y.Refused x → Gives (runNumbers ++ (16 ∷ [])) conditionNumbers x
+satisfies-gives x (AskedSatisfies.runRefused y j) e = of-run _ _ j (cc)
+satisfies-gives x (AskedSatisfies.conditionRefused y j d) e = of-the-condition _ _ _ d (cc)
+satisfies-gives x (AskedSatisfies.notCut j d n) e = of-call _ _ 16 (in-list _ tt) (cc)
+satisfies-gives x (AskedSatisfies.yes j d t) e = never (cc)
+satisfies-gives x (AskedSatisfies.no j d i t) e = never (cc)
 
 -- one step of the reader: `first`, `read_at`, `next`
 pub step-gives : (s : List ℕ) (at : ℕ) {x : Refusal} → stepAt s at ≡ S.Refused x → Gives (2 ∷ 3 ∷ 4 ∷ 6 ∷ []) [] x
@@ -285,7 +266,7 @@ step-gives s at {x} e =
 
 -- "No refusal has number 0": and so no answer has
 pub answer-numbered : {s c lent lent′ : List ℕ} {a : Answer} (x : Refusal) → Answered s c lent lent′ a → a ≡ A.Refused x → x .number ≡ 0 → ⊥
-answer-numbered x w e z = ⊎-elim (λ v. other-than-0 tt (v .number)) (λ v. other-than-0 tt (v .number)) (search-refused x w e)
+answer-numbered x w e z = ⊎-elim (λ v. other-than-0 tt (v .number)) (λ v. other-than-0 tt (v .number)) (search-gives x w e)
   where
     other-than-0 : {ns : List ℕ} → T (everyOf (λ n. not (eqb n 0)) ns) → List·Memᴰ (x .number) ns → ⊥
     other-than-0 t i = subst (λ n. T (not (eqb n 0))) z (every-mem (λ n. not (eqb n 0)) t i)
