@@ -24,7 +24,10 @@ enum {
 };
 
 /* What a case may hold. */
-enum { LONGEST_PART = 66000, MOST_CUT_NUMBERS = 24, MOST_LENT = 24, FIRST_PLACE = 60000 };
+enum { LONGEST_PART = 66000, MOST_CUT_NUMBERS = 24, MOST_LENT = 24 };
+
+/* What the first place of a lent row holds; the next is one further from zero. */
+enum { FIRST_PLACE = 60000, FIRST_STAMP = -60000 };
 
 /* Where the fields stand in a case and in a record. */
 enum { EXTRA_AT = 1, CUT_SIZE_AT = 3, RUN_SIZE_AT = 5, CONDITION_SIZE_AT = 9, CASE_HEAD = 13 };
@@ -141,11 +144,11 @@ struct slot {
     struct state *send;
 };
 
-/* The messages in transit on a channel, sorted against an operand. */
+/* The messages in transit on a channel, looked at for a stamp. */
 struct transit {
     uint32_t count;
-    uint32_t below;
     uint32_t equal;
+    int32_t lowest; /* the highest number there is where the channel is empty */
 };
 
 static struct file run_file = {.name = "run"};
@@ -573,15 +576,16 @@ static void drop_received(struct channel *channel)
 /* Counts messages, not sends less receives: the cut may have a receive and not yet its send. */
 static struct transit in_transit(struct channel *channel, int32_t operand)
 {
-    struct transit transit = {0};
+    struct transit transit = {.lowest = INT32_MAX};
     drop_received(channel);
     const struct state *send = channel->first_send;
     for (; send != NULL && send->number <= cut[channel->from]; send = send->next_send) {
         if (is_received(send, channel))
             continue;
         transit.count++;
-        transit.below += send->stamp < operand;
         transit.equal += send->stamp == operand;
+        if (send->stamp < transit.lowest)
+            transit.lowest = send->stamp;
     }
     return transit;
 }
@@ -614,7 +618,8 @@ static int mover_by_channel_clause(const struct clause *clause)
     struct channel *channel = &channels[clause->subject];
     int sender = (int)channel->from;
     int receiver = (int)channel->to;
-    struct transit transit = in_transit(channel, (int32_t)clause->operand);
+    int32_t stamp = (int32_t)clause->operand;
+    struct transit transit = in_transit(channel, stamp);
 
     switch (clause->test) {
     case COUNT_AT_MOST:
@@ -630,9 +635,9 @@ static int mover_by_channel_clause(const struct clause *clause)
     case NO_STAMP_EQUALS:
         return transit.equal == 0 ? NOBODY : receiver;
     case EVERY_STAMP_AT_LEAST:
-        return transit.below == 0 ? NOBODY : receiver;
+        return transit.lowest >= stamp ? NOBODY : receiver;
     default:
-        return transit.below + transit.equal > 0 ? NOBODY : sender;
+        return transit.count > 0 && transit.lowest <= stamp ? NOBODY : sender;
     }
 }
 
@@ -689,8 +694,13 @@ static void print_cut(void)
     puts("found");
     for (unsigned process = 0; process < process_count; process++)
         printf("state %u %u\n", process, cut[process]);
-    for (unsigned number = 0; number < channel_count; number++)
-        printf("channel %u %u\n", number, (unsigned)in_transit(&channels[number], 0).count);
+    for (unsigned number = 0; number < channel_count; number++) {
+        struct transit transit = in_transit(&channels[number], 0);
+        if (transit.count == 0)
+            printf("channel %u 0 -\n", number);
+        else
+            printf("channel %u %u %d\n", number, (unsigned)transit.count, (int)transit.lowest);
+    }
 }
 
 /* The numbers in the places that no cut was written to show that they are as they were. */
@@ -757,6 +767,14 @@ static void answer_satisfies(void)
         puts(mover_by_clauses() == NOBODY && mover_by_clocks() == NOBODY ? "yes" : "no");
 }
 
+static void print_count(struct transit transit)
+{
+    if (transit.count == 0)
+        puts("empty");
+    else
+        printf("count %u %d\n", (unsigned)transit.count, (int)transit.lowest);
+}
+
 static void answer_messages(unsigned channel)
 {
     struct refusal refusal = judge_run();
@@ -767,7 +785,7 @@ static void answer_messages(unsigned channel)
     if (refusal.reason != ACCEPTED)
         print_refusal(refusal);
     else
-        printf("count %u\n", (unsigned)in_transit(&channels[channel], 0).count);
+        print_count(in_transit(&channels[channel], 0));
 }
 
 /* How many bytes of the refused record there are. */
@@ -799,23 +817,43 @@ static void answer_shown(unsigned lent)
     putchar('\n');
 }
 
-static void answer_each(unsigned lent)
+static void print_counts(const struct transit *listed, unsigned written, unsigned lent)
 {
+    fputs("places", stdout);
+    for (unsigned place = 0; place < lent; place++)
+        printf(" %u", place < written ? (unsigned)listed[place].count : FIRST_PLACE + place);
+    putchar('\n');
+}
+
+/* An empty channel has no lowest stamp, so its place is as it was. */
+static void print_stamps(const struct transit *listed, unsigned written, unsigned lent)
+{
+    fputs("stamps", stdout);
+    for (unsigned place = 0; place < lent; place++) {
+        bool has_stamp = place < written && listed[place].count > 0;
+        printf(" %d", has_stamp ? (int)listed[place].lowest : FIRST_STAMP - (int)place);
+    }
+    putchar('\n');
+}
+
+static void answer_each(unsigned lent_counts, unsigned lent_stamps)
+{
+    struct transit listed[MOST_CHANNELS];
+    unsigned written = 0;
     struct refusal refusal = judge_run();
     if (refusal.reason == ACCEPTED)
         refusal = take_asked_cut();
-    if (refusal.reason == ACCEPTED && lent < channel_count)
+    if (refusal.reason == ACCEPTED && (lent_counts < channel_count || lent_stamps < channel_count))
         refusal = refused(&run_file, NO_ROOM, 0);
-    bool is_counted = refusal.reason == ACCEPTED;
-    if (is_counted)
+    if (refusal.reason == ACCEPTED) {
         puts("counted");
-    else
+        for (; written < channel_count; written++)
+            listed[written] = in_transit(&channels[written], 0);
+    } else {
         print_refusal(refusal);
-    fputs("places", stdout);
-    for (unsigned place = 0; place < lent; place++)
-        printf(" %u", is_counted && place < channel_count ? (unsigned)in_transit(&channels[place], 0).count
-                                                          : FIRST_PLACE + place);
-    putchar('\n');
+    }
+    print_counts(listed, written, lent_counts);
+    print_stamps(listed, written, lent_stamps);
 }
 
 /* A record by itself, beside the numbers that the head has. */
@@ -863,9 +901,14 @@ static void answer_record(size_t place)
     printf(" next %zu\n", place + record.length);
 }
 
+static unsigned lent_places(unsigned said)
+{
+    return said < MOST_LENT ? said : MOST_LENT;
+}
+
 static void answer(unsigned question, unsigned extra)
 {
-    unsigned lent = extra < MOST_LENT ? extra : MOST_LENT;
+    unsigned lent = lent_places(extra);
     switch (question) {
     case SEARCH:
         answer_search(lent);
@@ -883,7 +926,7 @@ static void answer(unsigned question, unsigned extra)
         answer_shown(lent);
         break;
     case EACH:
-        answer_each(lent);
+        answer_each(lent_places(extra & 0xff), lent_places(extra >> 8));
         break;
     case RECORD:
         answer_record(extra);

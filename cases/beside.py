@@ -3,7 +3,7 @@
 from __future__ import annotations
 
 import itertools
-from typing import Iterator
+from typing import Iterator, Sequence
 
 import encode
 from fixed_runs import run_with_stamps
@@ -19,29 +19,40 @@ from questions import (
     RECORD,
     SHOWN,
     Question,
+    lent_rows,
     search_refusal,
 )
-from reading import RUN
+from reading import MOST_CHANNELS, RUN
 
 MOST_LENT = 24
 WRONG_CUTS = [(), (1,), (1, 1, 1), (0, 1), (1, 0), (4, 1), (1, 4), (65_535, 1), (1,) * 24]
 
 
+def listing(run: bytes, cut: Sequence[int], counts: int, stamps: int) -> Question:
+    return Question(EACH, lent_rows(counts, stamps), tuple(cut), run, b"")
+
+
+def rows(*lengths: int) -> list[tuple[int, int]]:
+    """Each length with itself and with each other one: a row may be the shorter of the two."""
+    equal = [(length, length) for length in lengths]
+    return equal + list(itertools.permutations(lengths, 2))
+
+
 def listings() -> Iterator[Question]:
-    for cut, lent in itertools.product([*two_desks_cuts(), *WRONG_CUTS], (0, 1, 2, 24)):
-        yield Question(EACH, lent, cut, two_desks(), b"")
+    for lent, cut in itertools.product(rows(0, 1, 2, 24), [*two_desks_cuts(), *WRONG_CUTS]):
+        yield listing(two_desks(), cut, *lent)
     out_of_turn = run_with_stamps((5, 0, -5, 0), (3, 0, 1))
     for cut in itertools.product(range(1, 6), range(1, 5)):
-        yield Question(EACH, 1, cut, out_of_turn, b"")
+        yield listing(out_of_turn, cut, 1, 1)
     channels = [encode.channel(number, number % 3, 3) for number in range(16)]
     many = run_of_starts(4, channels)
-    for lent in (0, 1, 15, 16, 17):
-        yield Question(EACH, lent, (1, 1, 1, 1), many, b"")
+    for lent in rows(0, 1, 15, 16, 17):
+        yield listing(many, (1, 1, 1, 1), *lent)
         # A wrong cut comes ahead of room that is short.
-        yield Question(EACH, lent, (1, 1, 1, 2), many, b"")
-        yield Question(EACH, lent, (1, 1), marked_wrong_clock(), b"")
-    for lent in (0, 3):
-        yield Question(EACH, lent, (1, 1), run_of_starts(2), b"")
+        yield listing(many, (1, 1, 1, 2), *lent)
+        yield listing(marked_wrong_clock(), (1, 1), *lent)
+    for lent in rows(0, 3):
+        yield listing(run_of_starts(2), (1, 1), *lent)
 
 
 def records() -> Iterator[Question]:
@@ -65,7 +76,10 @@ def records() -> Iterator[Question]:
 def beside(question: Question) -> Iterator[Question]:
     """All channels where one was asked, and the refused record where its bytes were shown."""
     if question.kind == MESSAGES:
-        yield question._replace(kind=EACH, extra=min(question.extra + 1, MOST_LENT))
+        lent = min(question.extra + 1, MOST_LENT)
+        other = (lent, MOST_LENT) if question.extra % 2 else (MOST_LENT, lent)
+        for counts, stamps in ((lent, lent), other, (MOST_CHANNELS, MOST_LENT)):
+            yield listing(question.run, question.cut, counts, stamps)
     if question.kind == SHOWN:
         refusal = search_refusal(question.run, question.condition, question.extra)
         place = refusal.place if refusal is not None and refusal.file == RUN else 0

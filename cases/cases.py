@@ -2,7 +2,9 @@
 
 A case is, little-endian: the question (1 byte), the lent places, or the channel
 or the byte place asked (2), the number of cut numbers (2), the length of the run (4), the length
-of the condition (4), then the cut numbers (2 each), the run, the condition.
+of the condition (4), then the cut numbers (2 each), the run, the condition. Where all channels
+are asked, two rows are lent: the number of places for counts comes first (1), then that for
+stamps (1).
 """
 
 from __future__ import annotations
@@ -29,6 +31,7 @@ from questions import (  # noqa: E402
     SATISFIES,
     SEARCH,
     Question,
+    Transit,
     consistent,
     messages,
     messages_on_each,
@@ -44,6 +47,7 @@ from reading import Refusal  # noqa: E402
 MOST_CUT_NUMBERS = 24
 LONGEST_PART = 66_000
 FIRST_PLACE = 60_000
+FIRST_STAMP = -60_000
 
 QUESTION_NAMES = {
     1: "search",
@@ -55,8 +59,8 @@ QUESTION_NAMES = {
     8: "record",
 }
 ANSWER_KINDS = (
-    "found", "none", "yes", "no", "count", "counted", "record", "shown", "nothing shown",
-    "refused",
+    "found", "none", "yes", "no", "count", "empty", "counted", "record", "shown",
+    "nothing shown", "refused",
 )
 
 # The refusals that each file can have, those of lent places, cuts and channels
@@ -83,7 +87,7 @@ class Answer(NamedTuple):
 
 
 def encode_case(question: Question) -> bytes:
-    assert question.extra <= MOST_LENT or question.kind in (MESSAGES, RECORD)
+    assert is_lendable(question)
     assert len(question.cut) <= MOST_CUT_NUMBERS
     assert max(len(question.run), len(question.condition)) <= LONGEST_PART
     head = struct.pack(
@@ -96,6 +100,14 @@ def encode_case(question: Question) -> bytes:
     )
     numbers = struct.pack(f"<{len(question.cut)}H", *question.cut)
     return head + numbers + question.run + question.condition
+
+
+def is_lendable(question: Question) -> bool:
+    if question.kind in (MESSAGES, RECORD):
+        return True
+    if question.kind == EACH:
+        return max(question.lent_counts, question.lent_stamps) <= MOST_LENT
+    return question.extra <= MOST_LENT
 
 
 def decode_cases(data: bytes) -> Iterator[Question]:
@@ -132,7 +144,20 @@ def answer_of(question: Question) -> Answer:
 def places_text(lent: int, written: Sequence[int]) -> str:
     places = [FIRST_PLACE + index for index in range(lent)]
     places[: len(written)] = written
-    return " ".join(["places", *map(str, places)]) + "\n"
+    return row_text("places", places)
+
+
+def stamps_text(lent: int, written: Sequence[Optional[int]]) -> str:
+    """The place of a channel that has no lowest stamp is left as it was."""
+    stamps = [FIRST_STAMP - index for index in range(lent)]
+    for channel, lowest in enumerate(written):
+        if lowest is not None:
+            stamps[channel] = lowest
+    return row_text("stamps", stamps)
+
+
+def row_text(word: str, numbers: Sequence[int]) -> str:
+    return " ".join([word, *map(str, numbers)]) + "\n"
 
 
 def search_answer(question: Question) -> Answer:
@@ -153,12 +178,18 @@ def search_answer(question: Question) -> Answer:
 
 
 def each_answer(question: Question) -> Answer:
+    lent_counts, lent_stamps = question.lent_counts, question.lent_stamps
+    refusal = None
+    channels: Sequence[Transit] = ()
+    line = "counted"
     try:
-        counts = messages_on_each(question.run, question.cut, question.extra)
-    except Refusal as refusal:
-        text = refused_line(refusal) + "\n"
-        return Answer(text + places_text(question.extra, ()), "refused", refusal)
-    return Answer("counted\n" + places_text(question.extra, counts), "counted")
+        channels = messages_on_each(question.run, question.cut, lent_counts, lent_stamps)
+    except Refusal as raised:
+        refusal = raised
+        line = refused_line(raised)
+    counts = places_text(lent_counts, [count for count, _ in channels])
+    stamps = stamps_text(lent_stamps, [lowest for _, lowest in channels])
+    return Answer(f"{line}\n{counts}{stamps}", line.split()[0], refusal)
 
 
 def record_answer(question: Question) -> Answer:
@@ -174,8 +205,10 @@ def record_answer(question: Question) -> Answer:
 def smaller_answer(question: Question) -> Answer:
     try:
         if question.kind == MESSAGES:
-            count = messages(question.run, question.cut, question.extra)
-            return Answer(f"count {count}\n", "count")
+            count, lowest = messages(question.run, question.cut, question.extra)
+            if lowest is None:
+                return Answer("empty\n", "empty")
+            return Answer(f"count {count} {lowest}\n", "count")
         if question.kind == CONSISTENT:
             holds = consistent(question.run, question.cut)
         else:
@@ -262,7 +295,7 @@ class Table:
         parts = [
             f"{answer} {self.clauses[kind, number, answer]}"
             for answer in ANSWER_KINDS
-            if answer not in ("count", "counted", "record")
+            if answer not in ("count", "empty", "counted", "record")
         ]
         return f"{name} {number}: " + ", ".join(parts)
 

@@ -7,9 +7,9 @@ from typing import Sequence
 
 import encode
 from chance import Chance
-from execution import Draft, Step, file_order, run_of, run_records, simulate
+from execution import LOWEST, Draft, Step, file_order, run_of, run_records, simulate
 from marked import starts
-from model import INTERNAL, RECEIVE, SEND, START, Channel
+from model import EQUAL, INTERNAL, RECEIVE, SEND, START, Channel
 from reading import LONGEST_FILE
 
 
@@ -52,6 +52,26 @@ def too_long_run() -> bytes:
     run = run_of_size(5, 5, 1488)
     assert len(run) == LONGEST_FILE + 1
     return run
+
+
+def longest_answer_run() -> tuple[bytes, bytes]:
+    """A run and a condition whose answer is as long as any can be, the cut at the last states.
+
+    All states have three digits there and all lowest stamps eleven characters. Twelve channels
+    have a count of three digits: more of them take more sends than a file holds.
+    """
+    draft = Draft(8, [Channel(number % 8, (number + 1) % 8) for number in range(16)])
+    for process in range(8):
+        draft.add(process, Step(START))
+    for number, (sender, _) in enumerate(draft.channels):
+        for message in range(100 if number < 12 else 10):
+            values = (len(draft.histories[sender]), 0, 0, 0)
+            draft.add(sender, Step(SEND, number, message, LOWEST, values))
+    clauses = [
+        encode.local_clause(process, 0, EQUAL, len(history) - 1)
+        for process, history in enumerate(draft.histories)
+    ]
+    return draft_bytes(draft, draft.executed), encode.condition(*clauses)
 
 
 def circle_draft(process_count: int, hearers: int = 0) -> Draft:

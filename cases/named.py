@@ -22,6 +22,7 @@ from named_faults import named_faults  # noqa: E402
 from named_order import named_order  # noqa: E402
 from named_pairs import named_pairs  # noqa: E402
 from named_runs import named_runs  # noqa: E402
+from named_stamps import named_stamps  # noqa: E402
 from naming import Named  # noqa: E402
 
 
@@ -31,6 +32,7 @@ def named_cases() -> Iterator[Named]:
         named_clauses,
         named_conditions,
         named_cuts,
+        named_stamps,
         named_runs,
         named_faults,
         named_pairs,

@@ -155,7 +155,7 @@ def tests_of_stamps_around_zero() -> Iterator[Named]:
 
 # Who has to move: process 0 has sent, so that message 7 with stamp 5 is in transit.
 
-SENT, EMPTIED = found((2, 1), (1,)), found((2, 2), (0,))
+SENT, EMPTIED = found((2, 1), [(1, 5)]), found((2, 2), [None])
 
 # With the message received later, and with it never received.
 MOVES = (

@@ -160,7 +160,7 @@ def too_long() -> Iterator[Named]:
 
 
 def clause_counts() -> Iterator[Named]:
-    run, everywhere = two_desks(), found((1, 1), (0,))
+    run, everywhere = two_desks(), found((1, 1), [None])
     for count in (0, 1, 31, MOST_CLAUSES):
         condition = encode.condition(*[LOCAL] * count)
         yield searched(f"K of {count}", "as many clauses", run, condition, everywhere)

@@ -18,9 +18,11 @@ from marked import (
 from model import INTERNAL
 from named_order import draft_of, written
 from naming import (
+    EMPTY,
     VERDICTS,
     Named,
     consistency,
+    count_line,
     counted,
     found,
     refused_condition,
@@ -49,11 +51,12 @@ def nine_cuts() -> Iterator[Named]:
     for cut, letter in zip(cuts, "ynnyyyyyy"):
         expected = VERDICTS[letter]
         yield consistency("the nine cuts, consistent", str(cut), run, cut, expected)
-    for cut, count in zip(cuts, (0, 0, 0, 1, 0, 0, 1, 0, 0)):
-        expected = f"count {count}\n"
+    for cut in cuts:
+        # Message 7, stamp 5, is sent into state 2 of process 0 and received into state 2 of 1.
+        there = (1, 5) if cut in ((2, 1), (3, 1)) else None
         shape = "the nine cuts, messages on the channel"
-        yield counted(shape, str(cut), run, cut, 0, expected)
-    yield counted("count 0 at (1,2)", "marked case 9", run, (1, 2), 0, "count 0\n")
+        yield counted(shape, str(cut), run, cut, 0, count_line(there))
+    yield counted("empty at (1,2)", "marked case 9", run, (1, 2), 0, EMPTY)
     rows = (
         "ynnyyyyyy", "nnnynnynn", "nnnnyynyy", "nnnnnynny",
         "nnnnnnnnn", "ynnnyynyy", "nnnnnnnnn",
@@ -121,7 +124,7 @@ def short_of_places() -> Iterator[Named]:
                 shape = "fewer places than processes, where there is no cut"
             detail = f"{lent} places, condition of marked case {number}"
             yield searched(shape, detail, run, condition, NO_PLACES, lent)
-    yield searched("as many places as processes", "two", run, NO_CLAUSE, found((1, 1), (0,)), 2)
+    yield searched("as many places as processes", "two", run, NO_CLAUSE, found((1, 1), [None]), 2)
     eight = run_of_starts(8)
     yield searched("as many places as processes", "eight", eight, NO_CLAUSE, found((1,) * 8), 8)
     yield searched("fewer places than processes", "seven of eight", eight, NO_CLAUSE, NO_PLACES, 7)

@@ -130,12 +130,12 @@ def paired_well() -> Iterator[Named]:
     on_both = encode.condition(encode.channel_clause(0, 2, 1), encode.channel_clause(1, 2, 1))
     for order in ("000111", "111000", "010101"):
         run = written(draft, order)
-        yield searched(shape, f"file order {order}", run, on_both, found((3, 1), (1, 1)))
+        yield searched(shape, f"file order {order}", run, on_both, found((3, 1), [(1, 1), (1, 1)]))
     shape = "a message that is never received"
     run = written(draft_of([Channel(0, 1)], (SEND_4,), (SILENT,)), "0011")
     sent = encode.condition(encode.channel_clause(0, 3, 1))
     gone = encode.condition(encode.channel_clause(0, 3, 1), encode.channel_clause(0, 1, 0))
-    yield searched(shape, "in transit", run, sent, found((2, 1), (1,)))
+    yield searched(shape, "in transit", run, sent, found((2, 1), [(1, 1)]))
     yield searched(shape, "never gone again", run, gone, NONE)
 
 
@@ -143,8 +143,8 @@ def receives_ahead_in_the_file() -> Iterator[Named]:
     shape = "receive ahead of its send in the file"
     head, channel, *states, end = two_desks_records()
     answers = [
-        found((1, 1), (0,)), found((2, 1), (1,)), found((2, 2), (0,)),
-        found((2, 3), (0,)), NONE, found((1, 1), (0,)), NONE,
+        found((1, 1), [None]), found((2, 1), [(1, 5)]), found((2, 2), [None]),
+        found((2, 3), [None]), NONE, found((1, 1), [None]), NONE,
     ]
     # Numbers of the six states in the order in which they now stand.
     for order in ((3, 4, 5, 0, 1, 2), (3, 4, 0, 1, 5, 2), (0, 3, 4, 1, 2, 5)):
@@ -261,17 +261,17 @@ def no_circle() -> Iterator[Named]:
     crossing = [list(reversed(history)) for history in ring_histories(2)]
     run = written(draft_of(ring_channels(2), *crossing), "000111")
     both = encode.condition(encode.channel_clause(0, 3, 1), encode.channel_clause(1, 3, 1))
-    yield searched(shape, "two processes that each send first", run, both, found((2, 2), (1, 1)))
+    each_sent = found((2, 2), [(1, 8), (1, 8)])
+    yield searched(shape, "two processes that each send first", run, both, each_sent)
     opened = ring_histories(3)
     opened[1].reverse()
     run = written(draft_of(ring_channels(3), *opened), "000111222")
     # Process 1 sends, 2 receives and sends, 0 receives and sends, 1 receives.
-    for channel, cut, counts in (
-        (0, (3, 2, 3), (1, 0, 0)), (1, (1, 2, 1), (0, 1, 0)), (2, (1, 2, 3), (0, 0, 1))
-    ):
+    for channel, cut in ((0, (3, 2, 3)), (1, (1, 2, 1)), (2, (1, 2, 3))):
         condition = encode.condition(encode.channel_clause(channel, 3, 1))
         detail = f"three processes of which one sends first, channel {channel}"
-        yield searched(shape, detail, run, condition, found(cut, counts))
+        there = [(1, 8) if each == channel else None for each in range(3)]
+        yield searched(shape, detail, run, condition, found(cut, there))
 
 
 # Clocks

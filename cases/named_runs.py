@@ -10,7 +10,17 @@ from fixed_runs import lone_process, longest_run, too_long_run
 from marked import NO_CLAUSE, run_of_starts, starts, two_desks
 from model import INTERNAL, RECEIVE, SEND, Channel
 from named_order import draft_of, written
-from naming import NONE, Named, consistency, counted, found, refused_run, searched
+from naming import (
+    EMPTY,
+    NONE,
+    Named,
+    consistency,
+    count_line,
+    counted,
+    found,
+    refused_run,
+    searched,
+)
 from reading import LONGEST_FILE, MOST_STATES
 
 
@@ -34,21 +44,21 @@ def several_channels() -> Iterator[Named]:
     first = [Step(SEND, 0, 1, 10), Step(SEND, 1, 1, 11), Step(RECEIVE, 2, 1), Step(RECEIVE, 3, 1)]
     second = [Step(SEND, 2, 1, 12), Step(RECEIVE, 1, 1), Step(SEND, 3, 1, 13), Step(RECEIVE, 0, 1)]
     draft = draft_of(channels, first, second)
-    counts = {
-        (3, 2): (1, 1, 1, 0),
-        (3, 4): (1, 0, 1, 1),
-        (4, 4): (1, 0, 0, 1),
-        (5, 5): (0, 0, 0, 0),
+    at_cuts = {
+        (3, 2): ((1, 10), (1, 11), (1, 12), None),
+        (3, 4): ((1, 10), None, (1, 12), (1, 13)),
+        (4, 4): ((1, 10), None, None, (1, 13)),
+        (5, 5): (None, None, None, None),
     }
     for order in ("0000011111", "1111100000", "0101010101"):
         run = written(draft, order)
-        for cut, row in counts.items():
-            for channel, count in enumerate(row):
+        for cut, row in at_cuts.items():
+            for channel, there in enumerate(row):
                 detail = f"file order {order}, cut {cut}, channel {channel}"
-                yield counted(shape, detail, run, cut, channel, f"count {count}\n")
+                yield counted(shape, detail, run, cut, channel, count_line(there))
         all_four = encode.condition(encode.channel_clause(0, 3, 1), encode.channel_clause(3, 3, 1))
         detail = f"file order {order}, one on channel 0 and one on channel 3"
-        yield searched(shape, detail, run, all_four, found((3, 4), (1, 0, 1, 1)))
+        yield searched(shape, detail, run, all_four, found((3, 4), at_cuts[3, 4]))
 
 
 def overtaking() -> Iterator[Named]:
@@ -60,9 +70,12 @@ def overtaking() -> Iterator[Named]:
         word = {"y": "yes\n", "n": "no\n"}[letter]
         yield consistency(shape, f"consistent {cut}", run, cut, word)
     # At (3,2) the receive of 7 is in and its send is not: sends less receives is no count.
-    for cut, count in (((3, 2), 2), ((4, 2), 2), ((2, 2), 1), ((1, 4), 0), ((4, 4), 0)):
-        yield counted(shape, f"messages {cut}", run, cut, 0, f"count {count}\n")
-    for x, expected in ((3, found((4, 1), (3,))), (2, found((3, 1), (2,))), (4, NONE)):
+    for cut, there in (
+        ((3, 2), (2, 1)), ((4, 2), (2, 1)), ((2, 2), (1, 1)), ((1, 4), None), ((4, 4), None)
+    ):
+        yield counted(shape, f"messages {cut}", run, cut, 0, count_line(there))
+    all_three, first_two = found((4, 1), [(3, 1)]), found((3, 1), [(2, 1)])
+    for x, expected in ((3, all_three), (2, first_two), (4, NONE)):
         condition = encode.condition(encode.channel_clause(0, 4, x))
         yield searched(shape, f"stamp {x}", run, condition, expected)
 
@@ -88,8 +101,8 @@ def extreme_fields() -> Iterator[Named]:
     histories[6] = [Step(RECEIVE, 15, 2**32 - 1)]
     run = written(draft_of(channels, *histories), "0123456677")
     sent = encode.condition(encode.channel_clause(15, 7, LOWEST))
-    cut = (1, 1, 1, 1, 1, 1, 1, 2)
-    yield searched(shape, "eight and sixteen", run, sent, found(cut, (0,) * 15 + (1,)))
+    expected = found((1, 1, 1, 1, 1, 1, 1, 2), [None] * 15 + [(1, LOWEST)])
+    yield searched(shape, "eight and sixteen", run, sent, expected)
 
 
 def carried(detail: str, number: int, stamp: int) -> Iterator[Named]:
@@ -98,8 +111,8 @@ def carried(detail: str, number: int, stamp: int) -> Iterator[Named]:
     sends, receives = [Step(SEND, 0, number, stamp)], [Step(RECEIVE, 0, number)]
     run = written(draft_of([Channel(0, 1)], sends, receives), "1100")
     sent = encode.condition(encode.channel_clause(0, 4, stamp))
-    yield searched(shape, f"{detail}, sent", run, sent, found((2, 1), (1,)))
-    yield counted(shape, f"{detail}, received", run, (2, 2), 0, "count 0\n")
+    yield searched(shape, f"{detail}, sent", run, sent, found((2, 1), [(1, stamp)]))
+    yield counted(shape, f"{detail}, received", run, (2, 2), 0, EMPTY)
     yield consistency(shape, f"{detail}, received ahead", run, (1, 2), "no\n")
 
 
@@ -124,7 +137,7 @@ def counts_of_channels() -> Iterator[Named]:
         ]
         head = encode.run_head(2, count)
         run = b"".join([head, *channels, *starts(2), encode.end()])
-        expected = found((1, 1), (0,) * count) if count <= 16 else refused_run(5, 0)
+        expected = found((1, 1), [None] * count) if count <= 16 else refused_run(5, 0)
         yield searched(f"C of {count}", "as many channels", run, NO_CLAUSE, expected)
 
 

@@ -6,12 +6,16 @@ table beside the case, or follows from where a record was put.
 
 from __future__ import annotations
 
-from typing import Iterator, NamedTuple, Sequence
+from typing import Iterator, NamedTuple, Optional, Sequence
 
-from questions import CONSISTENT, MESSAGES, SATISFIES, SEARCH, Question
+from questions import CONSISTENT, EACH, MESSAGES, SATISFIES, SEARCH, Question, lent_rows
 
 NONE = "none\n"
+EMPTY = "empty\n"
 VERDICTS = {"y": "yes\n", "n": "no\n"}
+
+# How many messages are on a channel and their lowest stamp, or None for an empty channel.
+OnChannel = Optional[tuple[int, int]]
 
 
 class Named(NamedTuple):
@@ -42,11 +46,23 @@ def refused_condition(number: int, place: int) -> str:
     return refused("cond", number, place)
 
 
-def found(cut: Sequence[int], counts: Sequence[int] = ()) -> str:
+def found(cut: Sequence[int], channels: Sequence[OnChannel] = ()) -> str:
     lines = ["found"]
     lines += [f"state {process} {number}" for process, number in enumerate(cut)]
-    lines += [f"channel {channel} {count}" for channel, count in enumerate(counts)]
+    for channel, there in enumerate(channels):
+        count, lowest = there or (0, "-")
+        lines.append(f"channel {channel} {count} {lowest}")
     return "".join(line + "\n" for line in lines)
+
+
+def count_line(there: OnChannel) -> str:
+    return EMPTY if there is None else f"count {there[0]} {there[1]}\n"
+
+
+def rows_of(first: str, counts: Sequence[int], stamps: Sequence[int]) -> str:
+    """The first line of the answer for all channels, then both lent rows as they are left."""
+    rows = (["places", *map(str, counts)], ["stamps", *map(str, stamps)])
+    return first + "".join(" ".join(row) + "\n" for row in rows)
 
 
 # Questions
@@ -76,6 +92,14 @@ def counted(
     shape: str, detail: str, run: bytes, cut: Sequence[int], channel: int, expected: str
 ) -> Named:
     question = Question(MESSAGES, channel, tuple(cut), run, b"")
+    return Named(shape, detail, question, expected)
+
+
+def listed(
+    shape: str, detail: str, run: bytes, cut: Sequence[int], lent: tuple[int, int], expected: str
+) -> Named:
+    """`lent` is how many places there are for counts, and how many for stamps."""
+    question = Question(EACH, lent_rows(*lent), tuple(cut), run, b"")
     return Named(shape, detail, question, expected)
 
 

@@ -93,7 +93,7 @@ CUTS_CHANNELS_PLACES = (
     "the nine cuts, consistent",
     "the nine cuts, satisfying",
     "the nine cuts, messages on the channel",
-    "count 0 at (1,2)",
+    "empty at (1,2)",
     "a cut too short",
     "a cut too long",
     "a cut with a 0",
@@ -110,6 +110,27 @@ CUTS_CHANNELS_PLACES = (
     "the run is refused ahead of the places",
     "the condition is refused ahead of the places",
     "the condition is refused ahead of the cut",
+)
+
+LOWEST_STAMPS = (
+    "lowest stamp, negative stamps",
+    "lowest stamp, equal stamps",
+    "lowest stamp, extremes",
+    "lowest stamp, an empty channel",
+    "lowest stamp, inconsistent cuts",
+    "lowest stamp, neither the first sent nor the last",
+    "lowest stamp, a lower one is received",
+    "test 6 beside the lowest stamp",
+    "test 7 beside the lowest stamp",
+    "the longest answer there can be",
+    "all channels, some of them empty",
+    "all channels, rows that are long enough",
+    "all channels, too few places for stamps",
+    "all channels, too few places for counts",
+    "all channels, too few places for both",
+    "all channels of a run without any",
+    "all channels, the run is refused ahead of the cut and the rows",
+    "all channels, the cut is refused ahead of the rows",
 )
 
 SOUND_RUNS_AND_LIMITS = (
@@ -201,6 +222,7 @@ SHAPES: tuple[str, ...] = (
     *REFUSED_CONDITIONS,
     *CONDITION_ORDERS,
     *CUTS_CHANNELS_PLACES,
+    *LOWEST_STAMPS,
     *SOUND_RUNS_AND_LIMITS,
     *REFUSED_RUNS,
     *RUN_ORDERS,

@@ -15,8 +15,8 @@ def found_lines(found: Optional[Found]) -> list[str]:
     lines = ["found"]
     for process, number in enumerate(found.cut):
         lines.append(f"state {process} {number}")
-    for channel, count in enumerate(found.counts):
-        lines.append(f"channel {channel} {count}")
+    for channel, (count, lowest) in enumerate(found.channels):
+        lines.append(f"channel {channel} {count} {'-' if lowest is None else lowest}")
     return lines
 
 

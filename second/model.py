@@ -211,6 +211,11 @@ def stamps_in_transit(run: Run, cut: Sequence[int], channel: int) -> list[int]:
     return [stamp for message, stamp in sent.items() if message not in received]
 
 
+def lowest_stamp(stamps: list[int]) -> Optional[int]:
+    """The lowest of the stamps as signed numbers, or None where there are none."""
+    return min(stamps, default=None)
+
+
 # Clauses
 
 

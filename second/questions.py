@@ -11,6 +11,7 @@ from model import (
     first_cut,
     is_consistent,
     is_satisfying,
+    lowest_stamp,
     stamps_in_transit,
 )
 from reading import (
@@ -45,7 +46,11 @@ EACH, RECORD = 7, 8
 
 
 class Question(NamedTuple):
-    """`extra` is the number of lent places, the channel or the byte place asked about."""
+    """`extra` is the number of lent places, the channel or the byte place asked about.
+
+    All channels are asked with two lent rows, and `extra` has both numbers of places: that
+    for counts in its low byte, that for stamps in its high byte.
+    """
 
     kind: int
     extra: int
@@ -53,10 +58,30 @@ class Question(NamedTuple):
     run: bytes
     condition: bytes
 
+    @property
+    def lent_counts(self) -> int:
+        return self.extra % 256
+
+    @property
+    def lent_stamps(self) -> int:
+        return self.extra // 256
+
+
+def lent_rows(counts: int, stamps: int) -> int:
+    """The `extra` of a question about all channels."""
+    return stamps * 256 + counts
+
+
+class Transit(NamedTuple):
+    """What is on a channel: how many messages, and their lowest stamp, or None for no message."""
+
+    count: int
+    lowest: Optional[int]
+
 
 class Found(NamedTuple):
     cut: Cut
-    counts: tuple[int, ...]
+    channels: tuple[Transit, ...]
 
 
 def search(run_bytes: bytes, condition_bytes: bytes, lent: int) -> Optional[Found]:
@@ -65,14 +90,16 @@ def search(run_bytes: bytes, condition_bytes: bytes, lent: int) -> Optional[Foun
     if lent < run.process_count:
         raise Refusal(RUN, NO_ROOM, 0)
     cut = first_cut(run, clauses)
-    return None if cut is None else Found(cut, message_counts(run, cut))
+    return None if cut is None else Found(cut, transit_on_each(run, cut))
 
 
-def message_counts(run: Run, cut: Cut) -> tuple[int, ...]:
-    return tuple(
-        len(stamps_in_transit(run, cut, channel))
-        for channel in range(len(run.channels))
-    )
+def transit_on(run: Run, cut: Sequence[int], channel: int) -> Transit:
+    stamps = stamps_in_transit(run, cut, channel)
+    return Transit(len(stamps), lowest_stamp(stamps))
+
+
+def transit_on_each(run: Run, cut: Sequence[int]) -> tuple[Transit, ...]:
+    return tuple(transit_on(run, cut, channel) for channel in range(len(run.channels)))
 
 
 def consistent(run_bytes: bytes, cut: Sequence[int]) -> bool:
@@ -88,22 +115,22 @@ def satisfies(run_bytes: bytes, condition_bytes: bytes, cut: Sequence[int]) -> b
     return is_satisfying(run, clauses, cut)
 
 
-def messages(run_bytes: bytes, cut: Sequence[int], channel: int) -> int:
+def messages(run_bytes: bytes, cut: Sequence[int], channel: int) -> Transit:
     run = judge_run(run_bytes)
     judge_cut(run, cut)
     if channel >= len(run.channels):
         raise Refusal(RUN, WRONG_CHANNEL, 0)
-    return len(stamps_in_transit(run, cut, channel))
+    return transit_on(run, cut, channel)
 
 
 def messages_on_each(
-    run_bytes: bytes, cut: Sequence[int], lent: int
-) -> tuple[int, ...]:
+    run_bytes: bytes, cut: Sequence[int], lent_counts: int, lent_stamps: int
+) -> tuple[Transit, ...]:
     run = judge_run(run_bytes)
     judge_cut(run, cut)
-    if lent < len(run.channels):
+    if lent_counts < len(run.channels) or lent_stamps < len(run.channels):
         raise Refusal(RUN, NO_ROOM, 0)
-    return message_counts(run, tuple(cut))
+    return transit_on_each(run, cut)
 
 
 def judge_cut(run: Run, cut: Sequence[int]) -> None:

@@ -13,12 +13,16 @@ ROOT = Path(__file__).resolve().parent.parent
 sys.path[:0] = [str(ROOT / "second"), str(ROOT / "cases")]
 
 import encode  # noqa: E402
-from answer import answer_lines  # noqa: E402
+from answer import answer_lines, found_lines  # noqa: E402
+from beside import listing  # noqa: E402
 from cases import Table, answer_of, decode_cases, encode_case  # noqa: E402
 from chance import Chance  # noqa: E402
-from conditions import Aim, draw_clause  # noqa: E402
+from conditions import Aim, channel_clause, draw_clause  # noqa: E402
 from damage import put  # noqa: E402
 from execution import (  # noqa: E402
+    EXTREMES,
+    HIGHEST,
+    LOWEST,
     Draft,
     add_untimely_message,
     draw_channels,
@@ -27,7 +31,7 @@ from execution import (  # noqa: E402
     simulate,
 )
 from fixed import fixed_questions  # noqa: E402
-from fixed_runs import circle_draft, draft_bytes  # noqa: E402
+from fixed_runs import circle_draft, draft_bytes, run_with_stamps  # noqa: E402
 from generate import seeded_questions  # noqa: E402
 from marked import (  # noqa: E402
     NO_CLAUSE,
@@ -40,8 +44,11 @@ from marked import (  # noqa: E402
     two_desks_records,
 )
 from model import (  # noqa: E402
+    EVERY_STAMP_AT_LEAST,
+    SOME_STAMP_AT_MOST,
     Clause,
     Run,
+    channel_test_holds,
     chosen_positions,
     clause_holds,
     clocks,
@@ -50,15 +57,19 @@ from model import (  # noqa: E402
     first_by_enumeration,
     first_by_moving_up,
     is_consistent,
+    lowest_stamp,
     on_or_after_circle,
     process_to_move,
     stamps_in_transit,
 )
 from named import named_cases  # noqa: E402
 from questions import (  # noqa: E402
+    MESSAGES,
+    SEARCH,
     Found,
     Part,
     Question,
+    Transit,
     consistent,
     messages,
     messages_on_each,
@@ -74,6 +85,8 @@ from shapes import SHAPES  # noqa: E402
 
 Outcome = tuple[str, object, object]
 Told = tuple[str, int, int, bool]
+
+EMPTY = Transit(0, None)
 
 
 def told(call: Callable[[], object]) -> Optional[Told]:
@@ -93,14 +106,14 @@ def marked_cases() -> Iterator[Outcome]:
     yield "length of the run of two desks", len(run), 252
     inconsistent = [cut for cut in two_desks_cuts() if not consistent(run, cut)]
     yield "marked case 1", inconsistent, [(1, 2), (1, 3)]
-    yield "marked case 2", search(run, conditions[0], 2), Found((1, 1), (0,))
-    yield "marked case 3", search(run, conditions[1], 2), Found((2, 1), (1,))
-    yield "marked case 4", search(run, conditions[2], 2), Found((2, 2), (0,))
-    yield "marked case 5", search(run, conditions[3], 2), Found((2, 3), (0,))
+    yield "marked case 2", search(run, conditions[0], 2), Found((1, 1), (EMPTY,))
+    yield "marked case 3", search(run, conditions[1], 2), Found((2, 1), (Transit(1, 5),))
+    yield "marked case 4", search(run, conditions[2], 2), Found((2, 2), (EMPTY,))
+    yield "marked case 5", search(run, conditions[3], 2), Found((2, 3), (EMPTY,))
     yield "marked case 6", search(run, conditions[4], 2), None
-    yield "marked case 7", search(run, conditions[5], 2), Found((1, 1), (0,))
+    yield "marked case 7", search(run, conditions[5], 2), Found((1, 1), (EMPTY,))
     yield "marked case 8", search(run, conditions[6], 2), None
-    yield "marked case 9", messages(run, (1, 2), 0), 0
+    yield "marked case 9", messages(run, (1, 2), 0), EMPTY
     wrong = told(lambda: search(marked_wrong_clock(), NO_CLAUSE, 2))
     yield "marked case 10", wrong, ("run", 13, 172, False)
 
@@ -245,11 +258,67 @@ def bytes_shown() -> Iterator[Outcome]:
 
 
 def listings() -> Iterator[Outcome]:
-    run = two_desks()
-    yield "channels while the message is on its way", messages_on_each(run, (2, 1), 1), (1,)
-    yield "channels after it came", messages_on_each(run, (2, 2), 3), (0,)
-    yield "channels with no place lent", told(lambda: messages_on_each(run, (2, 1), 0)), ("run", 15, 0, False)
-    yield "channels of no cut", told(lambda: messages_on_each(run, (4, 1), 0)), ("run", 16, 0, False)
+    run, no_room = two_desks(), ("run", 15, 0, False)
+    on_its_way = messages_on_each(run, (2, 1), 1, 1)
+    yield "channels while the message is on its way", on_its_way, (Transit(1, 5),)
+    yield "channels after it came", messages_on_each(run, (2, 2), 3, 2), (EMPTY,)
+    for name, counts, stamps in (
+        ("no place lent", 0, 0), ("no place for the count", 0, 1), ("no place for the stamp", 1, 0)
+    ):
+        refusal = told(lambda: messages_on_each(run, (2, 1), counts, stamps))
+        yield f"channels with {name}", refusal, no_room
+    wrong_cut = told(lambda: messages_on_each(run, (4, 1), 0, 0))
+    yield "channels of no cut", wrong_cut, ("run", 16, 0, False)
+
+
+# The lowest stamp, written out by hand: what is sent and received, the cut, what is in transit
+
+
+def lowest_stamps() -> Iterator[Outcome]:
+    for name, stamps, received, cut, expected in (
+        ("nothing sent yet", (5,), (), (1, 1), EMPTY),
+        ("one message", (5,), (), (2, 1), Transit(1, 5)),
+        ("a stamp of 0", (0,), (), (2, 1), Transit(1, 0)),
+        ("-1 is below 0", (0, -1), (), (3, 1), Transit(2, -1)),
+        ("both signs", (3, -2, 7, -9, 4), (), (6, 1), Transit(5, -9)),
+        ("equal stamps", (6, 6, 6), (1,), (4, 2), Transit(2, 6)),
+        ("the lowest of all stamps", (-2147483648,), (), (2, 1), Transit(1, -2147483648)),
+        ("the highest of all stamps", (2147483647,), (), (2, 1), Transit(1, 2147483647)),
+        ("both extremes", (2147483647, -2147483648), (), (3, 1), Transit(2, -2147483648)),
+        ("the lowest came first", (1, 3, 2), (), (4, 1), Transit(3, 1)),
+        ("the lowest came last", (3, 2, 1), (), (4, 1), Transit(3, 1)),
+        ("the lowest isn't sent yet", (5, -7), (), (2, 1), Transit(1, 5)),
+        ("the lowest is received", (1, -8, 3), (1,), (4, 2), Transit(2, 1)),
+        ("another is received", (1, -8, 3), (0,), (4, 2), Transit(2, -8)),
+        ("all are received", (1, -8), (1, 0), (3, 3), EMPTY),
+        ("received ahead of its send", (5,), (0,), (1, 2), EMPTY),
+        ("received ahead, others in transit", (4, -3, 6), (2, 0), (3, 2), Transit(2, -3)),
+        ("received ahead, one of the others too", (4, -3, 6), (2, 0), (3, 3), Transit(1, -3)),
+        ("received ahead, all of the others too", (4, -3, 6), (2, 0), (2, 3), EMPTY),
+    ):
+        run = run_with_stamps(stamps, received)
+        yield f"messages, {name}", messages(run, cut, 0), expected
+        yield f"all channels, {name}", messages_on_each(run, cut, 1, 1), (expected,)
+
+
+def printed_stamps() -> Iterator[Outcome]:
+    channels = (Transit(1, -2147483648), EMPTY, Transit(3, 0))
+    lines = ["found", "state 0 2", "channel 0 1 -2147483648", "channel 1 0 -", "channel 2 3 0"]
+    yield "channel lines", found_lines(Found((2,), channels)), lines
+    run, no_room = run_with_stamps((-1,), ()), "refused run 15 0"
+    for name, question, lines in (
+        ("a count", Question(MESSAGES, 0, (2, 1), run, b""), ["count 1 -1"]),
+        ("an empty channel", Question(MESSAGES, 0, (1, 1), run, b""), ["empty"]),
+        ("both rows", listing(run, (2, 1), 2, 3),
+         ["counted", "places 1 60001", "stamps -1 -60001 -60002"]),
+        ("both rows, an empty channel", listing(run, (1, 1), 1, 2),
+         ["counted", "places 0", "stamps -60000 -60001"]),
+        ("no room for stamps", listing(run, (2, 1), 2, 0),
+         [no_room, "places 60000 60001", "stamps"]),
+        ("no room for counts", listing(run, (2, 1), 0, 1), [no_room, "places", "stamps -60000"]),
+        ("no channel", listing(run_of_starts(2), (1, 1), 0, 0), ["counted", "places", "stamps"]),
+    ):
+        yield f"text of {name}", answer_of(question).text, "".join(line + "\n" for line in lines)
 
 
 def records_alone() -> Iterator[Outcome]:
@@ -279,8 +348,8 @@ def records_alone() -> Iterator[Outcome]:
 
 def answer_without_places(question: Question) -> str:
     """A search's answer as the program prints it, without the line of lent places."""
-    lines = answer_of(question).text.splitlines(keepends=True)
-    return "".join(line for line in lines if not line.startswith("places"))
+    text = answer_of(question).text
+    return text.partition("places")[0] if question.kind == SEARCH else text
 
 
 def named_answers() -> Iterator[Outcome]:
@@ -306,7 +375,7 @@ def everything_reached() -> Iterator[Outcome]:
     for question in fixed_questions():
         table.count(question, answer_of(question))
     yield "not reached by fixed cases", list(table.not_reached()), []
-    yield "an empty table reaches nothing", len(list(Table().not_reached())), 76
+    yield "an empty table reaches nothing", len(list(Table().not_reached())), 77
 
 
 # Definitions against each other, on drawn runs
@@ -442,6 +511,47 @@ def who_has_to_move() -> Iterator[Outcome]:
         yield f"who has to move {index}", wrong, []
 
 
+def lowest_stamp_against_tests() -> Iterator[Outcome]:
+    """What the lowest stamp says of tests 6 and 7 is what all stamps say."""
+    chance = Chance(105)
+    for index in range(60):
+        draft = drawn_draft(chance, 10)
+        run = drawn_run(chance, draft)
+        wrong = [
+            (cut, channel)
+            for cut in every_cut(run)
+            for channel in range(len(run.channels))
+            if not tells_tests(run, cut, channel)
+        ]
+        yield f"tests by the lowest stamp {index}", wrong, []
+
+
+def tells_tests(run: Run, cut: tuple[int, ...], channel: int) -> bool:
+    stamps = stamps_in_transit(run, cut, channel)
+    lowest = lowest_stamp(stamps)
+    at_least, at_most = (
+        [x for x in EXTREMES if channel_test_holds(channel_clause(channel, test, x), stamps)]
+        for test in (EVERY_STAMP_AT_LEAST, SOME_STAMP_AT_MOST)
+    )
+    if lowest is None:
+        return (stamps, at_least, at_most) == ([], list(EXTREMES), [])
+    below, above = ([x for x in EXTREMES if x <= lowest], [x for x in EXTREMES if x >= lowest])
+    return lowest in stamps and (at_least, at_most) == (below, above)
+
+
+def drawn_stamps() -> Iterator[Outcome]:
+    """The questions of a seed have lowest stamps of every kind."""
+    lines = [
+        line.split()
+        for question in seeded_questions(1, 600)
+        for line in answer_of(question).text.splitlines()
+    ]
+    told_lowest = {words[3] for words in lines if words[0] == "channel"}
+    told_lowest |= {words[2] for words in lines if words[0] == "count"}
+    for stamp in ("-", str(LOWEST), "-1", "0", "1", str(HIGHEST)):
+        yield f"a lowest stamp of {stamp}", stamp in told_lowest, True
+
+
 # The program and the case format
 
 
@@ -459,7 +569,7 @@ def printed_answers() -> Iterator[Outcome]:
             with open(paths[name], "wb") as file:
                 file.write(data)
         missing = os.path.join(folder, "missing")
-        found = ["found", "state 0 2", "state 1 1", "channel 0 1"]
+        found = ["found", "state 0 2", "state 1 1", "channel 0 1 5"]
         for run, condition, expected in [
             (paths["run"], paths["three"], found),
             (paths["run"], paths["six"], ["none"]),
@@ -483,7 +593,7 @@ def case_format() -> Iterator[Outcome]:
     kinds = sorted({question.kind for question in asked})
     yield "fixed questions of each kind", kinds, [1, 2, 3, 4, 5, 7, 8]
     first = answer_of(asked[9])
-    expected = "found\nstate 0 1\nstate 1 1\nchannel 0 0\nplaces 1 1\n"
+    expected = "found\nstate 0 1\nstate 1 1\nchannel 0 0 -\nplaces 1 1\n"
     yield "text of a search", first.text, expected
     more_places = answer_of(asked[9]._replace(extra=4))
     last_line = more_places.text.splitlines()[-1]
@@ -501,6 +611,8 @@ GROUPS: list[Callable[[], Iterator[Outcome]]] = [
     order_of_refusals,
     bytes_shown,
     listings,
+    lowest_stamps,
+    printed_stamps,
     records_alone,
     named_answers,
     named_shapes,
@@ -509,6 +621,8 @@ GROUPS: list[Callable[[], Iterator[Outcome]]] = [
     three_ways_of_consistency,
     enumeration_against_moving_up,
     who_has_to_move,
+    lowest_stamp_against_tests,
+    drawn_stamps,
     printed_answers,
     case_format,
 ]

@@ -19,7 +19,7 @@ sys.path[:0] = [str(ROOT / "second"), str(ROOT / "cases")]
 from cases import QUESTION_NAMES, decode_cases  # noqa: E402
 
 # The words of lines that go on with the answer that an earlier line began.
-GOES_ON = (["state"], ["channel"], ["places"])
+GOES_ON = (["state"], ["channel"], ["places"], ["stamps"])
 
 
 class Agreement(NamedTuple):
@@ -29,7 +29,7 @@ class Agreement(NamedTuple):
 
 
 def split_answers(text: str) -> list[str]:
-    """One text per case; only the search's has more than one line."""
+    """One text per case: the search and the question about all channels have more than one line."""
     answers: list[str] = []
     for line in text.splitlines(keepends=True):
         if answers and line.split()[:1] in GOES_ON:

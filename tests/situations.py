@@ -17,7 +17,7 @@ sys.path[:0] = [str(ROOT / "second"), str(ROOT / "cases")]
 
 import encode  # noqa: E402
 from answer import answer_lines  # noqa: E402
-from fixed_runs import longest_run  # noqa: E402
+from fixed_runs import longest_answer_run, longest_run, run_with_stamps  # noqa: E402
 from marked import (  # noqa: E402
     NO_CLAUSE,
     marked_conditions,
@@ -27,10 +27,11 @@ from marked import (  # noqa: E402
     two_desks,
 )
 
-FOUR_LINES = "found\nstate 0 2\nstate 1 1\nchannel 0 1\n"
+FOUR_LINES = "found\nstate 0 2\nstate 1 1\nchannel 0 1 5\n"
 UNREADABLE_RUN, UNREADABLE_CONDITION = "unreadable run\n", "unreadable cond\n"
 LONGEST_PATH = 4_096
 LONG_FOLDER = "/".join(["a" * 200] * 10)
+STAMPS = (-2147483648, -1, 0, 2147483647)
 
 
 # As grep has it: 0 found, 1 none, 2 where nothing was answered.
@@ -108,6 +109,10 @@ def write_files(top: Path) -> None:
     ring = [encode.channel(number, number % 8, (number + 1) % 8) for number in range(16)]
     write(top / "eight", run_of_starts(8, ring))
     write(top / "alone", run_of_starts(1))
+    for stamp in STAMPS:
+        write(top / f"stamp {stamp}", run_with_stamps((stamp,), ()))
+    for name, data in zip(("many stamps run", "many stamps cond"), longest_answer_run()):
+        write(top / name, data)
     write(top / "no clause", NO_CLAUSE)
     for number, condition in enumerate(marked_conditions(), 2):
         write(top / f"marked {number}", condition)
@@ -190,18 +195,30 @@ def lengths() -> Iterator[Situation]:
 def printed(top: Path) -> Iterator[Situation]:
     yield Situation("marked case 3", ("run", "marked 3"), FOUR_LINES)
     for number, cut in ((2, (1, 1)), (4, (2, 2)), (5, (2, 3)), (7, (1, 1))):
-        text = f"found\nstate 0 {cut[0]}\nstate 1 {cut[1]}\nchannel 0 0\n"
+        text = f"found\nstate 0 {cut[0]}\nstate 1 {cut[1]}\nchannel 0 0 -\n"
         yield Situation(f"marked case {number}", ("run", f"marked {number}"), text)
     for number in (6, 8):
         yield Situation(f"marked case {number}", ("run", f"marked {number}"), "none\n")
     yield Situation("marked case 10", ("wrong clock", "cond"), "refused run 13 172\n")
     states = "".join(f"state {process} 1\n" for process in range(8))
-    channels = "".join(f"channel {number} 0\n" for number in range(16))
+    channels = "".join(f"channel {number} 0 -\n" for number in range(16))
     yield Situation("eight processes", ("eight", "no clause"), "found\n" + states + channels)
     yield Situation("one process, no channel", ("alone", "no clause"), "found\nstate 0 1\n")
     lines = answer_lines(str(top / "longest run"), str(top / "longest cond"))
     text = "".join(line + "\n" for line in lines)
     yield Situation("the longest run there can be", ("longest run", "longest cond"), text)
+    yield from printed_stamps()
+
+
+def printed_stamps() -> Iterator[Situation]:
+    for stamp in STAMPS:
+        text = f"found\nstate 0 2\nstate 1 1\nchannel 0 1 {stamp}\n"
+        yield Situation(f"a lowest stamp of {stamp}", (f"stamp {stamp}", "marked 3"), text)
+    states = [f"state {process} {201 if process < 4 else 111}" for process in range(8)]
+    channels = [f"channel {number} {100 if number < 12 else 10} -2147483648" for number in range(16)]
+    text = "".join(line + "\n" for line in ["found", *states, *channels])
+    words = ("many stamps run", "many stamps cond")
+    yield Situation("the longest answer there can be", words, text)
 
 
 def all_situations(top: Path) -> list[Situation]:

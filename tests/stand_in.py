@@ -30,6 +30,10 @@ MISTAKES = {
     "the folder not looked at": "a folder",
     "no line end after the last line": "marked case 6",
     "the counts left out": "no word",
+    "the lowest stamps left out": "no word",
+    "0 as the lowest stamp of an empty channel": "marked case 2",
+    "an unsigned lowest stamp": "a lowest stamp of -1",
+    "no answer of more than 512 bytes": "the longest answer there can be",
     "the answer on standard error": "marked case 10",
     "status 0 for none": "marked case 6",
     "status 1 for a refusal": "marked case 10",
@@ -103,6 +107,31 @@ def lines_of(mistake: str, run_path: str, condition_path: str) -> list[str]:
     return unreadable[:1] or judged(run or b"", condition or b"")
 
 
+def channel_line(mistake: str, line: str) -> str:
+    front, lowest = line.rsplit(" ", 1)
+    if mistake == "the lowest stamps left out":
+        return front
+    if mistake == "0 as the lowest stamp of an empty channel" and lowest == "-":
+        return f"{front} 0"
+    if mistake == "an unsigned lowest stamp" and lowest != "-":
+        return f"{front} {int(lowest) % 2**32}"
+    return line
+
+
+def text_of(mistake: str, lines: list[str]) -> str:
+    channels = [line for line in lines if line.startswith("channel")]
+    others = lines[: len(lines) - len(channels)]
+    if mistake == "the counts left out":
+        channels = []
+    lines = others + [channel_line(mistake, line) for line in channels]
+    text = "".join(line + "\n" for line in lines)
+    if mistake == "no line end after the last line":
+        return text[:-1]
+    if mistake == "no answer of more than 512 bytes" and len(text) > 512:
+        return ""
+    return text
+
+
 def main(arguments: list[str]) -> int:
     mistake, *words = arguments
     if len(words) > 2:
@@ -112,11 +141,7 @@ def main(arguments: list[str]) -> int:
     tell_reasons(mistake, paths)
     lines = lines_of(mistake, *paths)
     status = status_of(mistake, lines[0])
-    if mistake == "the counts left out":
-        lines = [line for line in lines if not line.startswith("channel")]
-    text = "".join(line + "\n" for line in lines)
-    if mistake == "no line end after the last line":
-        text = text[:-1]
+    text = text_of(mistake, lines)
     stream = sys.stderr if mistake == "the answer on standard error" else sys.stdout
     pieces = text.splitlines(keepends=True) if mistake == "a write for each line" else [text]
     for piece in pieces:

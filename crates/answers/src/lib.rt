@@ -1,11 +1,14 @@
 // The lines of an answer, made in a lent buffer. What they are is said in `specs/Lines.antt`. Each call first has the lines made where there is no room,
 // which tells how long they are: so nothing is written into a buffer that is too short.
+mod channels;
+
+use channels::channel_lines;
+use channels::count_line;
 use checker::Answer;
 use questions::Count;
 use questions::Verdict;
 use record::File;
 use record::Refusal;
-use writing::number_line;
 use writing::pair_line;
 use writing::row_lines;
 use writing::text;
@@ -34,19 +37,25 @@ fn refused(refusal: Refusal, buffer: &mut [u8]) -> usize
     }
 }
 
-fn found(cut: &[u16], row: &[u16], buffer: &mut [u8]) -> usize
-    ensures { λ r. ⌜ Put (foundLines (now (cut .entry)) (now (row .entry))) 0 r (now (buffer .entry)) (now (buffer .exit)) ⌝ }
+fn found(cut: &[u16], counts: &[u16], stamps: &[i32], buffer: &mut [u8]) -> usize
+    ensures { λ r. ⌜ Put (foundLines (now (cut .entry)) (now (counts .entry)) (now (stamps .entry))) 0 r (now (buffer .entry)) (now (buffer .exit)) ⌝ }
 {
     let states = text(b"found\n", 0, buffer);
     let channels = row_lines(b"state", cut, states, buffer);
-    row_lines(b"channel", row, channels, buffer)
+    channel_lines(counts, stamps, channels, buffer)
 }
 
-fn put_answer(answer: Answer, cut: &[u16], row: &[u16], buffer: &mut [u8]) -> usize
-    ensures { λ r. ⌜ Put (answerLines answer (now (cut .entry)) (now (row .entry))) 0 r (now (buffer .entry)) (now (buffer .exit)) ⌝ }
+fn put_answer(
+    answer: Answer,
+    cut: &[u16],
+    counts: &[u16],
+    stamps: &[i32],
+    buffer: &mut [u8],
+) -> usize
+    ensures { λ r. ⌜ Put (answerLines answer (now (cut .entry)) (now (counts .entry)) (now (stamps .entry))) 0 r (now (buffer .entry)) (now (buffer .exit)) ⌝ }
 {
     match answer {
-        Answer::Found => found(cut, row, buffer),
+        Answer::Found => found(cut, counts, stamps, buffer),
         Answer::None => text(b"none\n", 0, buffer),
         Answer::Refused(refusal) => refused(refusal, buffer),
     }
@@ -66,21 +75,28 @@ fn put_count(count: Count, buffer: &mut [u8]) -> usize
     ensures { λ r. ⌜ Put (countLines count) 0 r (now (buffer .entry)) (now (buffer .exit)) ⌝ }
 {
     match count {
-        Count::Messages(n) => number_line(b"count", n, 0, buffer),
+        Count::Empty => text(b"empty\n", 0, buffer),
+        Count::Messages(n, stamp) => count_line(n, stamp, buffer),
         Count::Refused(refusal) => refused(refusal, buffer),
     }
 }
 
-// The answer of the search with the state of each process at the cut, and the number of messages on each channel there.
-pub fn answer(answer: Answer, cut: &[u16], row: &[u16], buffer: &mut [u8]) -> Made
-    ensures { λ r. ⌜ MadeOf (answerLines answer (now (cut .entry)) (now (row .entry))) (now (buffer .entry)) (now (buffer .exit)) r ⌝ }
+// The answer of the search with the state of each process at the cut, and the number of messages on each channel there with the lowest stamp among them.
+pub fn answer(
+    answer: Answer,
+    cut: &[u16],
+    counts: &[u16],
+    stamps: &[i32],
+    buffer: &mut [u8],
+) -> Made
+    ensures { λ r. ⌜ MadeOf (answerLines answer (now (cut .entry)) (now (counts .entry)) (now (stamps .entry))) (now (buffer .entry)) (now (buffer .exit)) r ⌝ }
 {
     let mut nowhere = [0u8; 0];
-    let n = put_answer(answer, cut, row, &mut nowhere);
+    let n = put_answer(answer, cut, counts, stamps, &mut nowhere);
     if buffer.len() < n {
         return Made::TooShort;
     }
-    put_answer(answer, cut, row, buffer);
+    put_answer(answer, cut, counts, stamps, buffer);
     Made::Lines(n)
 }
 
@@ -108,10 +124,15 @@ pub fn count(count: Count, buffer: &mut [u8]) -> Made
     Made::Lines(n)
 }
 
+pub(crate) fn lesser(a: usize, b: usize) -> usize
+    ensures { λ r. ⌜ r ≡ min a b ⌝ }
+{
+    if a < b { a } else { b }
+}
+
 // How many numbers of a row stand there where n were to be written.
 pub fn filled(n: u16, row: &[u16]) -> usize
     ensures { λ r. ⌜ r ≡ min n (length (now (row .entry))) ⌝ }
 {
-    let all = n as usize;
-    if all < row.len() { all } else { row.len() }
+    lesser(n as usize, row.len())
 }

@@ -3,6 +3,7 @@ use mathlib.Core.Path.{_≡_}
 use mathlib.Core.Logic.{_≢_}
 use mathlib.Core.List.{List}
 use Prim.Native.Nat.{ℕ, _≤_, _<_}
+use lib.IntN.{ℤ}
 use lib.ListN.{length}
 use Rattle.model.specs.Clause.{Satisfies, First}
 use Rattle.record.specs.Record.{headOf}
@@ -17,7 +18,7 @@ use Rattle.run.specs.declared.RunReading.the-variants as R
 use Rattle.condition.specs.Read.{readOf, clausesIn}
 use Rattle.record.specs.Pass.Read.{refused}
 use Rattle.condition.specs.Accepted.{ConditionAccepted}
-use Rattle.cut.specs.Listing.{onEach, Wrote}
+use Rattle.cut.specs.Listing.{onEach, Room, Wrote, WroteLowest}
 use Rattle.checker.specs.declared.Answer.{Answer}
 use Rattle.checker.specs.declared.Answer.the-variants as A
 
@@ -35,10 +36,12 @@ pub data Answered (s c lent lent′ : List ℕ) : Answer → Type 0 where
   found : Both s c → headOf s .processes ≤ length lent → (cut : List ℕ) → First (runIn s) (clausesIn c (headOf s)) cut → Wrote cut lent lent′
       → Answered s c lent lent′ A.Found
 
--- the search with the channels of the cut that it finds: 15 also where fewer places are lent for these than the run has channels; then nothing changes. Only found writes
--- into them, how many messages are on each channel at the first cut
-pub data AnsweredListed (s c lent lent′ row row′ : List ℕ) : Answer → Type 0 where
-  fewRow : Both s c → length row < headOf s .channels → lent′ ≡ lent → row′ ≡ row → AnsweredListed s c lent lent′ row row′ (A.Refused (refusal Run (number noRoom) 0))
-  unlisted : (a : Answer) → a ≢ A.Found → (Both s c → headOf s .channels ≤ length row) → Answered s c lent lent′ a → row′ ≡ row → AnsweredListed s c lent lent′ row row′ a
-  listed : headOf s .channels ≤ length row → Answered s c lent lent′ A.Found → (cut : List ℕ) → First (runIn s) (clausesIn c (headOf s)) cut → Wrote (onEach (runIn s) cut) row row′
-      → AnsweredListed s c lent lent′ row row′ A.Found
+-- the search with the channels of the cut that it finds, in two rows of places for these: 15 also where one of them has fewer than the run has channels; then nothing
+-- changes. Only found writes into them, how many messages are on each channel at the first cut and the lowest of their stamps
+pub data AnsweredListed (s c lent lent′ counts counts′ : List ℕ) (stamps stamps′ : List ℤ) : Answer → Type 0 where
+  fewRow : Both s c → ¬ Room (headOf s .channels) counts stamps → lent′ ≡ lent → counts′ ≡ counts → stamps′ ≡ stamps
+      → AnsweredListed s c lent lent′ counts counts′ stamps stamps′ (A.Refused (refusal Run (number noRoom) 0))
+  unlisted : (a : Answer) → a ≢ A.Found → (Both s c → Room (headOf s .channels) counts stamps) → Answered s c lent lent′ a → counts′ ≡ counts → stamps′ ≡ stamps
+      → AnsweredListed s c lent lent′ counts counts′ stamps stamps′ a
+  listed : Room (headOf s .channels) counts stamps → Answered s c lent lent′ A.Found → (cut : List ℕ) → First (runIn s) (clausesIn c (headOf s)) cut → Wrote (onEach (runIn s) cut) counts counts′
+      → WroteLowest (runIn s) cut (headOf s .channels) stamps stamps′ → AnsweredListed s c lent lent′ counts counts′ stamps stamps′ A.Found

@@ -2,7 +2,7 @@
 use crate::Answer;
 use condition::ConditionReading;
 use condition::pass::read_condition;
-use cut::listing::count_each;
+use cut::listing::list_channels;
 use cut::listing::write;
 use judging::whole::judge_run;
 use record::File;
@@ -13,9 +13,8 @@ use run::RunReading;
 use run::index::INDEX_SIZE;
 use search::Outcome;
 use search::eliminate::search;
-ghost use Prim.Native.Nat.{_≤_};
-ghost use lib.ListN.{length};
 ghost use Rattle.judged.specs.Told.{Told};
+ghost use Rattle.cut.specs.Listing.{Room};
 ghost use Rattle.search.specs.Prepared.{Prepared};
 ghost use Rattle.checker.specs.Answered.{Answered, AnsweredListed};
 ghost use Rattle.checker.specs.Inner.{Searching};
@@ -88,24 +87,28 @@ pub fn first_cut(run: &[u8], cond: &[u8], lent: &mut [u16]) -> Answer
     }
 }
 
-// Beside an accepted run, where there is a place for each channel.
+// Beside an accepted run, where there is a place for each channel in both rows.
 fn with_channels(
     run: &[u8],
     index: &[u16],
     cond: &[u8],
     head: Head,
     lent: &mut [u16],
-    row: &mut [u16],
+    counts: &mut [u16],
+    stamps: &mut [i32],
 ) -> Answer
-    requires { ⌜ Told (now run) (now index) head × (head .channels ≤ length (now row)) ⌝ }
-    ensures { λ r. ⌜ AnsweredListed (now (run .entry)) (now (cond .entry)) (now (lent .entry)) (now (lent .exit)) (now (row .entry)) (now (row .exit)) r ⌝ }
+    requires { ⌜ Told (now run) (now index) head × Room (head .channels) (now counts) (now stamps) ⌝ }
+    ensures { λ r. ⌜
+        AnsweredListed (now (run .entry)) (now (cond .entry)) (now (lent .entry)) (now (lent .exit))
+        (now (counts .entry)) (now (counts .exit)) (now (stamps .entry)) (now (stamps .exit)) r
+        ⌝ }
 {
     let answer = with_condition(run, index, cond, head, lent);
     let Answer::Found = answer else {
         return answer;
     };
     let size = head.processes as usize;
-    count_each(run, index, &lent[..size], head.channels, row);
+    list_channels(run, index, &lent[..size], head.channels, counts, stamps);
     Answer::Found
 }
 
@@ -116,25 +119,40 @@ fn listed_for(
     cond: &[u8],
     head: Head,
     lent: &mut [u16],
-    row: &mut [u16],
+    counts: &mut [u16],
+    stamps: &mut [i32],
 ) -> Answer
     requires { ⌜ Told (now run) (now index) head ⌝ }
-    ensures { λ r. ⌜ AnsweredListed (now (run .entry)) (now (cond .entry)) (now (lent .entry)) (now (lent .exit)) (now (row .entry)) (now (row .exit)) r ⌝ }
+    ensures { λ r. ⌜
+        AnsweredListed (now (run .entry)) (now (cond .entry)) (now (lent .entry)) (now (lent .exit))
+        (now (counts .entry)) (now (counts .exit)) (now (stamps .entry)) (now (stamps .exit)) r
+        ⌝ }
 {
-    if row.len() < head.channels as usize {
+    let size = head.channels as usize;
+    if (counts.len() < size) | (stamps.len() < size) {
         return with_condition(run, index, cond, head, &mut lent[..0]);
     }
-    with_channels(run, index, cond, head, lent, row)
+    with_channels(run, index, cond, head, lent, counts, stamps)
 }
 
-// The first cut into the first lent places, and how many messages are on each channel there into a row of others, over one judging.
-pub fn first_cut_listed(run: &[u8], cond: &[u8], lent: &mut [u16], row: &mut [u16]) -> Answer
-    ensures { λ r. ⌜ AnsweredListed (now (run .entry)) (now (cond .entry)) (now (lent .entry)) (now (lent .exit)) (now (row .entry)) (now (row .exit)) r ⌝ }
+// The first cut into the first lent places, and into two rows of others how many messages are on each channel there and the lowest of their stamps,
+// over one judging.
+pub fn first_cut_listed(
+    run: &[u8],
+    cond: &[u8],
+    lent: &mut [u16],
+    counts: &mut [u16],
+    stamps: &mut [i32],
+) -> Answer
+    ensures { λ r. ⌜
+        AnsweredListed (now (run .entry)) (now (cond .entry)) (now (lent .entry)) (now (lent .exit))
+        (now (counts .entry)) (now (counts .exit)) (now (stamps .entry)) (now (stamps .exit)) r
+        ⌝ }
 {
     let mut index = [0u16; INDEX_SIZE];
     let reading = judge_run(run, &mut index);
     match reading {
         RunReading::Refused(refusal) => Answer::Refused(refusal),
-        RunReading::Accepted(head) => listed_for(run, &index, cond, head, lent, row),
+        RunReading::Accepted(head) => listed_for(run, &index, cond, head, lent, counts, stamps),
     }
 }

@@ -1,14 +1,10 @@
--- Which stamp decides a test of stamps: 4 and 7 are true by it, 5 and 6 false.
-use mathlib.Core.Bool.{Bool, not, cond}
-use Prim.Native.Nat.{ℕ}
-use lib.Dec.{eqb}
-use lib.IntN.{ℤ}
-use lib.Signed.{leZ}
-use Rattle.model.specs.declared.Message.{Message}
-use Rattle.model.specs.Clause.{sameZ}
+-- The tests that are told from what is in transit.
+use mathlib.Core.Logic.{_≢_}
+use Prim.Native.Nat.{ℕ, _≤_}
 
-unfoldable pub decidedBy : ℕ → ℤ → ℤ → Bool
-decidedBy test x stamp = cond (eqb test 6) (not (leZ x stamp)) (cond (eqb test 7) (leZ stamp x) (sameZ stamp x))
-
-unfoldable pub decides : ℕ → ℤ → Message → Bool
-decides test x m = decidedBy test x (m .stamp)
+-- every linear test but 4 and 5, which seek a stamp
+pub record ByLoad (test : ℕ) : Type 0 where
+  pub some : 1 ≤ test
+  pub linear : test ≤ 7
+  pub not4 : test ≢ 4
+  pub not5 : test ≢ 5

@@ -1,72 +1,63 @@
-// The channel tests by what they ask: 1 to 3 how many messages there are, 4 to 7 whether some stamp decides. 8 and 9 aren't linear, so no condition has them.
+// The channel tests by what they ask: 1 to 3, 6 and 7 are told from how many messages there are and their lowest stamp, 4 and 5 seek a stamp. 8 and 9
+// aren't linear, so no condition has them.
 use record::bytes::signed_of;
-use transit::Waiting;
-use transit::span_of;
-use transit::waits;
+use transit::Load;
+use transit::has_stamp;
 ghost use mathlib.Core.Path.{_≡_};
 ghost use mathlib.Core.List.{List, []};
 ghost use Prim.Native.Nat.{_≤_};
 ghost use lib.ListN.{length};
 ghost use Rattle.model.specs.declared.Message.{Message};
-ghost use Rattle.model.specs.Cut.{add, inTransit};
-ghost use Rattle.model.specs.Clause.{someOf, passes};
+ghost use Rattle.model.specs.Cut.{inTransit};
+ghost use Rattle.model.specs.Clause.{passes};
+ghost use Rattle.model.specs.LowestStamp.{LowestStamp};
 ghost use Rattle.run.specs.Said.{runIn};
 ghost use Rattle.condition.specs.Clauses.{testOf};
-ghost use Rattle.transit.specs.Waiting.{inside};
 ghost use Rattle.transit.specs.Asked.{Asked};
-ghost use Rattle.clause.specs.ChannelTests.{decides, decidedBy};
+ghost use Rattle.transit.specs.Load.{LoadOf};
+ghost use Rattle.clause.specs.ChannelTests.{ByLoad};
 
-// Tests 1 to 3 of so many messages.
-pub fn count_passes(test: u16, operand: u32, count: usize) -> bool
-    requires { ⌜ (1 ≤ test) × (test ≤ 3) ⌝ }
-    ensures { λ r. ⌜ ((ms : List Message) → count ≡ length ms → r ≡ passes (testOf test operand) ms) ⌝ }
+fn empty_passes(test: u16, operand: u32) -> bool
+    requires { ⌜ ByLoad test ⌝ }
+    ensures { λ r. ⌜ r ≡ passes (testOf test operand) [] ⌝ }
+{
+    match test {
+        1 => true,
+        2 => operand == 0,
+        3 => operand == 0,
+        6 => true,
+        _ => false,
+    }
+}
+
+fn messages_pass(test: u16, operand: u32, count: usize, lowest: i32) -> bool
+    requires { ⌜ ByLoad test ⌝ }
+    ensures { λ r. ⌜ ((ms : List Message) → count ≡ length ms → LowestStamp ms lowest → r ≡ passes (testOf test operand) ms) ⌝ }
 {
     let limit = operand as usize;
+    let x = signed_of(operand);
     match test {
         1 => count <= limit,
         2 => limit <= count,
-        _ => count == limit,
+        3 => count == limit,
+        6 => x <= lowest,
+        _ => lowest <= x,
     }
 }
 
-// Whether one stamp decides a test: 4 and 7 are true by it, 5 and 6 false.
-fn stamp_decides(test: u16, stamp: i32, x: i32) -> bool
-    ensures { λ r. ⌜ r ≡ decidedBy test x stamp ⌝ }
+// Tests 1 to 3, 6 and 7 of what is in transit on the channel.
+pub fn load_passes(test: u16, operand: u32, load: Load) -> bool
+    requires { ⌜ ByLoad test ⌝ }
+    ensures { λ r. ⌜ ((ms : List Message) → LoadOf ms load → r ≡ passes (testOf test operand) ms) ⌝ }
 {
-    match test {
-        6 => !(x <= stamp),
-        7 => stamp <= x,
-        _ => (stamp <= x) & (x <= stamp),
+    match load {
+        Load::Empty => empty_passes(test, operand),
+        Load::Messages(count, lowest) => messages_pass(test, operand, count, lowest),
     }
 }
 
-fn one_decides(waiting: Waiting, test: u16, x: i32) -> bool
-    ensures { λ r. ⌜ r ≡ someOf (decides test x) (add (inside waiting) []) ⌝ }
-{
-    match waiting {
-        Waiting::Nothing => false,
-        Waiting::One(message) => stamp_decides(test, message.stamp, x),
-    }
-}
-
-// Whether some message on the channel has a stamp that decides the test.
-fn some_stamp(run: &[u8], index: &[u16], cut: &[u16], channel: u16, test: u16, x: i32) -> bool
-    requires { ⌜ Asked (now run) (now index) (now cut) channel ⌝ }
-    ensures { λ r. ⌜ r ≡ someOf (decides test x) (inTransit (runIn (now (run .entry))) (now (cut .entry)) channel) ⌝ }
-{
-    let span = span_of(run, cut, channel);
-    let mut k: u16 = 0;
-    while k < span.sent {
-        if one_decides(waits(run, index, span, k + 1), test, x) {
-            return true;
-        }
-        k += 1;
-    }
-    false
-}
-
-// Tests 4 to 7 of the messages on the channel.
-pub fn stamps_pass(
+// Tests 4 and 5 of the messages on the channel.
+pub fn stamp_passes(
     run: &[u8],
     index: &[u16],
     cut: &[u16],
@@ -74,14 +65,12 @@ pub fn stamps_pass(
     test: u16,
     operand: u32,
 ) -> bool
-    requires { ⌜ Asked (now run) (now index) (now cut) channel × (4 ≤ test) × (test ≤ 7) ⌝ }
+    requires { ⌜ Asked (now run) (now index) (now cut) channel × (4 ≤ test) × (test ≤ 5) ⌝ }
     ensures { λ r. ⌜ r ≡ passes (testOf test operand) (inTransit (runIn (now (run .entry))) (now (cut .entry)) channel) ⌝ }
 {
-    let some = some_stamp(run, index, cut, channel, test, signed_of(operand));
+    let some = has_stamp(run, index, cut, channel, signed_of(operand));
     match test {
         4 => some,
-        5 => !some,
-        6 => !some,
-        _ => some,
+        _ => !some,
     }
 }

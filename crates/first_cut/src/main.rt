@@ -23,10 +23,10 @@ fn text(words: &[u8]) {
     io::write_all(STDOUT_FILENO, words);
 }
 
-// The lines go out in one write, so that no reader sees half an answer. 512 bytes are always enough (`theorems/proofs/Enough.antt`).
-fn print(answer: Answer, cut: &[u16], row: &[u16]) {
-    let mut lines = [0u8; 512];
-    let made = answers::answer(answer, cut, row, &mut lines);
+// The lines go out in one write, so that no reader sees half an answer. 1,024 bytes are always enough (`theorems/proofs/Enough.antt`).
+fn print(answer: Answer, cut: &[u16], counts: &[u16], stamps: &[i32]) {
+    let mut lines = [0u8; 1024];
+    let made = answers::answer(answer, cut, counts, stamps, &mut lines);
     let Made::Lines(n) = made else {
         return;
     };
@@ -35,12 +35,19 @@ fn print(answer: Answer, cut: &[u16], row: &[u16]) {
 
 fn judge(run: &[u8], cond: &[u8]) {
     let mut places = [0u16; 8];
-    let mut row = [0u16; 16];
-    let answer = checker::finding::first_cut_listed(run, cond, &mut places, &mut row);
+    let mut counts = [0u16; 16];
+    let mut stamps = [0i32; 16];
+    let answer = checker::finding::first_cut_listed(
+        run,
+        cond,
+        &mut places,
+        &mut counts,
+        &mut stamps,
+    );
     let head = head_of(run);
     let n = answers::filled(head.processes, &places);
-    let m = answers::filled(head.channels, &row);
-    print(answer, &places[..n], &row[..m]);
+    let m = answers::filled(head.channels, &counts);
+    print(answer, &places[..n], &counts[..m], &stamps);
 }
 
 // One byte more than a file may have, so that a longer one is seen to be too long.

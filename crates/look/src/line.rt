@@ -1,5 +1,6 @@
 // A line as it is made, and the numbers of a record. Where bytes aren't there a number is 0: a record that the step gave has them.
 use libc::STDOUT_FILENO;
+use record::bytes::signed_of;
 use record::bytes::u16_at;
 use record::bytes::u32_at;
 use writing::number;
@@ -45,11 +46,8 @@ pub fn named(word: &[u8], n: u16, at: usize, line: &mut [u8]) -> usize {
 
 // ` -5`: the signed number that 32 bits are.
 pub fn signed(bits: u32, at: usize, line: &mut [u8]) -> usize {
-    if bits < 2147483648 {
-        return spaced(bits as usize, at, line);
-    }
-    let next = text(b" -", at, line);
-    number(4294967296 - bits as usize, next, line)
+    let next = text(b" ", at, line);
+    writing::signed(signed_of(bits), next, line)
 }
 
 // Each line begins with a place.

@@ -144,9 +144,14 @@ marked = all-answered desks desks-known table (
 )
 
 -- case 9: the set is empty where a receive is in and its send is not
-pub early : length (inTransit desks (1 ∷ 2 ∷ []) 0) ≡ 0
+pub early : inTransit desks (1 ∷ 2 ∷ []) 0 ≡ []
 unfolding desks row note into state paired sends waiting between inTransit
 early = refl
+
+-- the message that is on its way at the first cut of case 3
+pub sent : inTransit desks (2 ∷ 1 ∷ []) 0 ≡ note 0 7 (pos 5) ∷ []
+unfolding desks row note into state paired sends waiting between inTransit
+sent = refl
 
 -- ---- its clocks: (1,0) (2,0) (3,0) and (0,1) (1,2) (1,3)
 

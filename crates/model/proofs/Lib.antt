@@ -6,6 +6,7 @@ pub mod Order
 pub mod Circle
 pub mod Clock
 pub mod Transit
+pub mod LowestStamp
 pub mod Lattice
 pub mod Past
 pub mod Messages

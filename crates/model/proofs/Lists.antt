@@ -89,6 +89,14 @@ module _ {A : Type 0} (f : A → Bool) where
   mem-every [] h = tt
   mem-every (x ∷ xs) h = T-and (f x) (everyOf f xs) (h x (List·Memᴰ·head refl)) (mem-every xs (λ y m. h y (List·Memᴰ·tail m)))
 
+  pub some-mem : (xs : List A) → T (someOf f xs) → (x : A) × List·Memᴰ x xs × T (f x)
+  some-mem [] t = absurd t
+  some-mem (x ∷ xs) t = elim (or-T (f x) (someOf f xs) t) [ inl u ↦ (x, List·Memᴰ·head refl, u) | inr u ↦ (let (y, m, v) = some-mem xs u in (y, List·Memᴰ·tail m, v)) ]
+
+  pub mem-some : {x : A} {xs : List A} → List·Memᴰ x xs → T (f x) → T (someOf f xs)
+  mem-some (List·Memᴰ·head {x} {xs} e) t = T-or (f x) (someOf f xs) (inl (rw e at t))
+  mem-some (List·Memᴰ·tail {x} {xs} m) t = T-or (f x) (someOf f xs) (inr (mem-some m t))
+
 pub fewer-length : {A : Type 0} {xs ys : List A} → Sublistᴰ xs ys → length xs ≤ length ys
 fewer-length Sublistᴰ·slnil = omega arith
 fewer-length (Sublistᴰ·cons p) = omega (arith, fewer-length p)

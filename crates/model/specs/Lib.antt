@@ -1,6 +1,7 @@
 pub mod Run
 pub mod Cut
 pub mod Clause
+pub mod LowestStamp
 pub mod Known
 pub mod Clocks
 pub mod Sent

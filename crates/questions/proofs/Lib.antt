@@ -1,1 +1,2 @@
 pub mod Cuts
+pub mod Loads

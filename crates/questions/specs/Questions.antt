@@ -1,10 +1,12 @@
 -- What the public calls about a given cut answer: the run's refusal, the condition's, 16, 17 or 15, and then the answer.
 use mathlib.Core.Path.{_≡_}
-use mathlib.Core.List.{List}
+use mathlib.Core.List.{List, []}
 use Prim.Native.Nat.{ℕ, _≤_, _<_}
+use lib.IntN.{ℤ}
 use lib.ListN.{length}
 use Rattle.model.specs.Cut.{IsCut, Consistent, inTransit}
 use Rattle.model.specs.Clause.{Satisfies}
+use Rattle.model.specs.LowestStamp.{LowestStamp}
 use Rattle.record.specs.Record.{headOf}
 use Rattle.record.specs.Refusal.{number, refusal}
 use Rattle.record.specs.Refusal.Reason.{noRoom, wrongCut, noChannel}
@@ -17,7 +19,7 @@ use Rattle.run.specs.Said.{runIn}
 use Rattle.condition.specs.Read.{readOf, clausesIn}
 use Rattle.record.specs.Pass.Read.{refused}
 use Rattle.condition.specs.Accepted.{ConditionAccepted}
-use Rattle.cut.specs.Listing.{onEach, Wrote}
+use Rattle.cut.specs.Listing.{onEach, Room, Wrote, WroteLowest}
 use Rattle.questions.specs.declared.Count.{Count}
 use Rattle.questions.specs.declared.Count.the-variants as C
 use Rattle.questions.specs.declared.Counts.{Counts}
@@ -36,7 +38,9 @@ module _ (s cut : List ℕ) where
     runRefused : (x : Refusal) → Judged s (R.Refused x) → AskedMessages channel (C.Refused x)
     notCut : RunAccepted s → ¬ IsCut (runIn s) cut → AskedMessages channel (C.Refused (refusal Run (number wrongCut) 0))
     noSuchChannel : RunAccepted s → IsCut (runIn s) cut → headOf s .channels ≤ channel → AskedMessages channel (C.Refused (refusal Run (number noChannel) 0))
-    messages : RunAccepted s → IsCut (runIn s) cut → channel < headOf s .channels → AskedMessages channel (C.Messages (length (inTransit (runIn s) cut channel)))
+    empty : RunAccepted s → IsCut (runIn s) cut → channel < headOf s .channels → inTransit (runIn s) cut channel ≡ [] → AskedMessages channel C.Empty
+    messages : RunAccepted s → IsCut (runIn s) cut → channel < headOf s .channels → (x : ℤ) → LowestStamp (inTransit (runIn s) cut channel) x
+        → AskedMessages channel (C.Messages (length (inTransit (runIn s) cut channel)) x)
 
 pub data AskedSatisfies (s c cut : List ℕ) : Verdict → Type 0 where
   runRefused : (x : Refusal) → Judged s (R.Refused x) → AskedSatisfies s c cut (A.Refused x)
@@ -45,9 +49,11 @@ pub data AskedSatisfies (s c cut : List ℕ) : Verdict → Type 0 where
   yes : RunAccepted s → ConditionAccepted s c → Satisfies (runIn s) (clausesIn c (headOf s)) cut → AskedSatisfies s c cut A.Yes
   no : RunAccepted s → ConditionAccepted s c → IsCut (runIn s) cut → ¬ Satisfies (runIn s) (clausesIn c (headOf s)) cut → AskedSatisfies s c cut A.No
 
--- 15: a place for each channel is to be lent
-pub data AskedEach (s cut lent lent′ : List ℕ) : Counts → Type 0 where
-  runRefused : (x : Refusal) → Judged s (R.Refused x) → lent′ ≡ lent → AskedEach s cut lent lent′ (N.Refused x)
-  notCut : RunAccepted s → ¬ IsCut (runIn s) cut → lent′ ≡ lent → AskedEach s cut lent lent′ (N.Refused (refusal Run (number wrongCut) 0))
-  few : RunAccepted s → IsCut (runIn s) cut → length lent < headOf s .channels → lent′ ≡ lent → AskedEach s cut lent lent′ (N.Refused (refusal Run (number noRoom) 0))
-  listed : RunAccepted s → IsCut (runIn s) cut → headOf s .channels ≤ length lent → Wrote (onEach (runIn s) cut) lent lent′ → AskedEach s cut lent lent′ N.Counted
+-- 15: a place for each channel is to be lent in both rows
+pub data AskedEach (s cut counts counts′ : List ℕ) (stamps stamps′ : List ℤ) : Counts → Type 0 where
+  runRefused : (x : Refusal) → Judged s (R.Refused x) → counts′ ≡ counts → stamps′ ≡ stamps → AskedEach s cut counts counts′ stamps stamps′ (N.Refused x)
+  notCut : RunAccepted s → ¬ IsCut (runIn s) cut → counts′ ≡ counts → stamps′ ≡ stamps → AskedEach s cut counts counts′ stamps stamps′ (N.Refused (refusal Run (number wrongCut) 0))
+  few : RunAccepted s → IsCut (runIn s) cut → ¬ Room (headOf s .channels) counts stamps → counts′ ≡ counts → stamps′ ≡ stamps
+      → AskedEach s cut counts counts′ stamps stamps′ (N.Refused (refusal Run (number noRoom) 0))
+  listed : RunAccepted s → IsCut (runIn s) cut → Room (headOf s .channels) counts stamps → Wrote (onEach (runIn s) cut) counts counts′
+      → WroteLowest (runIn s) cut (headOf s .channels) stamps stamps′ → AskedEach s cut counts counts′ stamps stamps′ N.Counted

@@ -12,13 +12,14 @@ pub enum Verdict {
     Refused(Refusal),
 }
 
-// How many messages are in transit on a channel.
+// What is in transit on a channel: nothing, or so many messages with the lowest of their stamps.
 pub enum Count {
-    Messages(usize),
+    Empty,
+    Messages(usize, i32),
     Refused(Refusal),
 }
 
-// Whether the number of messages on each channel stands in the lent places.
+// Whether the number of messages on each channel, and the lowest of their stamps, stand in the lent places.
 pub enum Counts {
     Counted,
     Refused(Refusal),

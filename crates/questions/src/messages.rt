@@ -1,4 +1,4 @@
-// How many messages are on a channel at a cut?
+// What is in transit on a channel at a cut?
 use crate::Count;
 use cut::choice::is_cut;
 use judging::whole::judge_run;
@@ -9,11 +9,23 @@ use record::reasons::CUT;
 use record::reasons::refusal_of;
 use run::RunReading;
 use run::index::INDEX_SIZE;
-use transit::count_on;
+use transit::Load;
+use transit::load_on;
+ghost use mathlib.Core.Path.{_≡_};
 ghost use Rattle.judged.specs.Told.{Told};
+ghost use Rattle.questions.specs.Inner.{asCount};
 ghost use Rattle.questions.specs.Questions.{AskedMessages};
 
-// Of an accepted run: 16, 17, or the count.
+fn as_count(load: Load) -> Count
+    ensures { λ r. ⌜ r ≡ asCount load ⌝ }
+{
+    match load {
+        Load::Empty => Count::Empty,
+        Load::Messages(count, lowest) => Count::Messages(count, lowest),
+    }
+}
+
+// Of an accepted run: 16, 17, or what is in transit.
 fn messages_in(run: &[u8], index: &[u16], cut: &[u16], channel: u16, head: Head) -> Count
     requires { ⌜ Told (now run) (now index) head ⌝ }
     ensures { λ r. ⌜ AskedMessages (now (run .entry)) (now (cut .entry)) channel r ⌝ }
@@ -24,10 +36,10 @@ fn messages_in(run: &[u8], index: &[u16], cut: &[u16], channel: u16, head: Head)
     if head.channels <= channel {
         return Count::Refused(refusal_of(File::Run, CHANNEL, 0));
     }
-    Count::Messages(count_on(run, index, cut, channel))
+    as_count(load_on(run, index, cut, channel))
 }
 
-// How many messages are in transit on a channel at the cut, consistent or not.
+// How many messages are in transit on a channel at the cut, consistent or not, and the lowest of their stamps.
 pub fn messages_on(run: &[u8], cut: &[u16], channel: u16) -> Count
     ensures { λ r. ⌜ AskedMessages (now (run .entry)) (now (cut .entry)) channel r ⌝ }
 {

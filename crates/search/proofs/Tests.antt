@@ -1,5 +1,6 @@
 -- A clause at a cut: true, or who has to move.
 use mathlib.Core.Path.{_≡_, refl, sym, _∙_, subst}
+use mathlib.Core.Logic.{⊎-elim}
 use mathlib.Core.Bool.{Bool, true, false, cond}
 use mathlib.Core.List.{List, List·Memᴰ}
 use Prim.Native.Nat.{ℕ, zero, suc, _≤_, _<_}
@@ -7,6 +8,7 @@ use native.Mathlib.Omega.{arith}
 use lib.Dec.{T, ltb}
 use lib.IntN.{ℤ, pos}
 use lib.ListN.{length, getD}
+use Rattle.model.proofs.Lists.{le-or-lt}
 use Rattle.model.proofs.Numbers.{never, T-of, not-T-of}
 use Rattle.model.specs.declared.Channel.{Channel}
 use Rattle.model.specs.declared.Mover.the-variants.{Sender, Receiver, NotLinear}
@@ -45,18 +47,13 @@ module _ (r : Run) (cut : List ℕ) (c n x : ℕ) {b : Bool} (says : b ≡ passe
   unfolding holds
   channel-false h e = channelFalse c (testOf n x) _ refl (not-T-of (sym says ∙ h)) e
 
--- what tests of stamps name doesn't depend on the number of messages
-pub stamp-mover : (n x a b : ℕ) → 4 ≤ n → n ≤ 7 → mover (testOf n x) a ≡ mover (testOf n x) b
+-- what tests 4 and 5 name doesn't depend on the number of messages
+pub stamp-moves : (n x a b : ℕ) → 4 ≤ n → n ≤ 5 → mover (testOf n x) a ≡ mover (testOf n x) b
 unfolding testOf
-stamp-mover zero x a b h g = absurd (omega arith)
-stamp-mover (suc zero) x a b h g = absurd (omega arith)
-stamp-mover (suc (suc zero)) x a b h g = absurd (omega arith)
-stamp-mover (suc (suc (suc zero))) x a b h g = absurd (omega arith)
-stamp-mover (suc (suc (suc (suc zero)))) x a b h g = refl
-stamp-mover (suc (suc (suc (suc (suc zero))))) x a b h g = refl
-stamp-mover (suc (suc (suc (suc (suc (suc zero)))))) x a b h g = refl
-stamp-mover (suc (suc (suc (suc (suc (suc (suc zero))))))) x a b h g = refl
-stamp-mover (suc (suc (suc (suc (suc (suc (suc (suc n)))))))) x a b h g = absurd (omega arith)
+stamp-moves n x a b h g = ⊎-elim
+    (λ l. let e : n ≡ 4 = omega arith in rw e refl)
+    (λ l. let e : n ≡ 5 = omega arith in rw e refl)
+    (le-or-lt n 4)
 
 module _ {r : Run} {c : ℕ} {t : Test} {n : ℕ} {e : Channel} (ends : Ends r c e) where
   pub names-sender : mover t n ≡ Sender → EndNamed r c t n (Process (e .from))

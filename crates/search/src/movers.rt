@@ -1,6 +1,6 @@
 // Whom one clause names at a cut: nobody where it holds, else who has to move.
-use clause::channel_tests::count_passes;
-use clause::channel_tests::stamps_pass;
+use clause::channel_tests::load_passes;
+use clause::channel_tests::stamp_passes;
 use clause::local::local_holds;
 use condition::Clause;
 use condition::Local;
@@ -9,7 +9,8 @@ use condition::movers::who_moves;
 use cut::HasToMove;
 use model::Mover;
 use states::held::channel_at;
-use transit::count_on;
+use transit::count_in;
+use transit::load_on;
 ghost use mathlib.Core.Path.{_≡_};
 ghost use Prim.Native.Nat.{_≤_};
 ghost use Rattle.model.specs.Cut.{IsCut};
@@ -20,6 +21,7 @@ ghost use Rattle.run.specs.Said.{statesOf, runIn};
 ghost use Rattle.run.specs.Index.{IndexHolds};
 ghost use Rattle.condition.specs.Clauses.{testOf, clauseOf};
 ghost use Rattle.condition.specs.Known.{LocalKnown, TestKnown};
+ghost use Rattle.clause.specs.ChannelTests.{ByLoad};
 ghost use Rattle.search.specs.Search.{Tested, EndNamed, ChannelAsked};
 
 // A local clause names its process.
@@ -59,24 +61,24 @@ fn end_named(run: &[u8], clause: Test, count: usize) -> HasToMove
     }
 }
 
-// Tests 1 to 3.
-fn counted_mover(run: &[u8], index: &[u16], cut: &[u16], clause: Test) -> HasToMove
-    requires { ⌜ ChannelAsked (now run) (now index) (now cut) clause × (clause .test ≤ 3) ⌝ }
+// Tests 1 to 3, 6 and 7.
+fn load_mover(run: &[u8], index: &[u16], cut: &[u16], clause: Test) -> HasToMove
+    requires { ⌜ ChannelAsked (now run) (now index) (now cut) clause × ByLoad (clause .test) ⌝ }
     ensures { λ r. ⌜ Tested (runIn (now (run .entry))) (now (cut .entry)) (clauseOf (Clause.Channel clause)) r ⌝ }
 {
-    let count = count_on(run, index, cut, clause.channel);
-    if count_passes(clause.test, clause.operand, count) {
+    let load = load_on(run, index, cut, clause.channel);
+    if load_passes(clause.test, clause.operand, load) {
         return HasToMove::Nobody;
     }
-    end_named(run, clause, count)
+    end_named(run, clause, count_in(load))
 }
 
-// Tests 4 to 7. How many messages there are doesn't matter to whom they name.
-fn stamped_mover(run: &[u8], index: &[u16], cut: &[u16], clause: Test) -> HasToMove
-    requires { ⌜ ChannelAsked (now run) (now index) (now cut) clause × (4 ≤ clause .test) ⌝ }
+// Tests 4 and 5. How many messages there are doesn't matter to whom they name.
+fn stamp_mover(run: &[u8], index: &[u16], cut: &[u16], clause: Test) -> HasToMove
+    requires { ⌜ ChannelAsked (now run) (now index) (now cut) clause × (4 ≤ clause .test) × (clause .test ≤ 5) ⌝ }
     ensures { λ r. ⌜ Tested (runIn (now (run .entry))) (now (cut .entry)) (clauseOf (Clause.Channel clause)) r ⌝ }
 {
-    if stamps_pass(run, index, cut, clause.channel, clause.test, clause.operand) {
+    if stamp_passes(run, index, cut, clause.channel, clause.test, clause.operand) {
         return HasToMove::Nobody;
     }
     end_named(run, clause, 0)
@@ -87,8 +89,10 @@ pub(crate) fn channel_mover(run: &[u8], index: &[u16], cut: &[u16], clause: Test
     requires { ⌜ ChannelAsked (now run) (now index) (now cut) clause ⌝ }
     ensures { λ r. ⌜ Tested (runIn (now (run .entry))) (now (cut .entry)) (clauseOf (Clause.Channel clause)) r ⌝ }
 {
-    if clause.test <= 3 {
-        return counted_mover(run, index, cut, clause);
+    let test = clause.test;
+    match test {
+        4 => stamp_mover(run, index, cut, clause),
+        5 => stamp_mover(run, index, cut, clause),
+        _ => load_mover(run, index, cut, clause),
     }
-    stamped_mover(run, index, cut, clause)
 }

@@ -1,7 +1,8 @@
 // Cases from standard input.
 //
-// A case is, little-endian: the question (1 byte), the lent places or the channel asked (2), the number of cut numbers (2), the length of the run (4), the
-// length of the condition (4), then the cut numbers (2 each), the run, the condition.
+// A case is, little-endian: the question (1 byte), the lent places, or for all channels those of the counts (1) and of the stamps (1), or the channel or the
+// byte place asked (2), the number of cut numbers (2), the length of the run (4), the length of the condition (4), then the cut numbers (2 each), the run,
+// the condition.
 use libc::STDIN_FILENO;
 use record::bytes::u16_at;
 use record::bytes::u32_at;

@@ -10,13 +10,13 @@ pub fn text(words: &[u8]) {
     io::write_all(STDOUT_FILENO, words);
 }
 
-// Each answer goes out in one write. 512 bytes are always enough (`theorems/proofs/Enough.antt`).
-pub fn print_answer(run: &[u8], places: &[u16], row: &[u16], answer: Answer) {
-    let mut lines = [0u8; 512];
+// Each answer goes out in one write. 1,024 bytes are always enough (`theorems/proofs/Enough.antt`).
+pub fn print_answer(run: &[u8], places: &[u16], counts: &[u16], stamps: &[i32], answer: Answer) {
+    let mut lines = [0u8; 1024];
     let head = head_of(run);
     let n = answers::filled(head.processes, places);
-    let m = answers::filled(head.channels, row);
-    let made = answers::answer(answer, &places[..n], &row[..m], &mut lines);
+    let m = answers::filled(head.channels, counts);
+    let made = answers::answer(answer, &places[..n], &counts[..m], stamps, &mut lines);
     let Made::Lines(length) = made else {
         return;
     };
@@ -24,7 +24,7 @@ pub fn print_answer(run: &[u8], places: &[u16], row: &[u16], answer: Answer) {
 }
 
 pub fn print_verdict(verdict: Verdict) {
-    let mut lines = [0u8; 512];
+    let mut lines = [0u8; 1024];
     let made = answers::verdict(verdict, &mut lines);
     let Made::Lines(length) = made else {
         return;
@@ -33,7 +33,7 @@ pub fn print_verdict(verdict: Verdict) {
 }
 
 pub fn print_count(count: Count) {
-    let mut lines = [0u8; 512];
+    let mut lines = [0u8; 1024];
     let made = answers::count(count, &mut lines);
     let Made::Lines(length) = made else {
         return;
@@ -73,5 +73,29 @@ fn numbers(places: &[u16]) {
 pub fn places_line(places: &[u16]) {
     text(b"places");
     numbers(places);
+    text(b"\n");
+}
+
+fn signed(x: i32) {
+    let mut digits = [0u8; 12];
+    let n = writing::signed(x, 0, &mut digits);
+    if digits.len() < n {
+        return;
+    }
+    text(b" ");
+    text(&digits[..n]);
+}
+
+fn signed_numbers(stamps: &[i32]) {
+    let mut i: usize = 0;
+    while i < stamps.len() {
+        signed(stamps[i]);
+        i += 1;
+    }
+}
+
+pub fn stamps_line(stamps: &[i32]) {
+    text(b"stamps");
+    signed_numbers(stamps);
     text(b"\n");
 }

@@ -1,15 +1,21 @@
 -- Each public contract allows one answer: any two answers that it allows for the same input are equal, with the lent places that they leave.
 use mathlib.Core.Path.{_≡_, refl, sym, ap, _∙_}
 use mathlib.Core.Logic.{⊎-elim}
-use mathlib.Core.List.{List}
+use mathlib.Core.List.{List, [], _∷_}
 use Prim.Native.Nat.{ℕ, suc, _≤_, _<_}
 use native.Mathlib.Omega.{arith}
-use lib.ListN.{length}
+use lib.IntN.{ℤ, pos}
+use lib.ListN.{length, getD}
 use lib.Seq.{ext-getD}
+use Rattle.model.specs.declared.Message.{Message}
+use Rattle.model.specs.Run.{Run}
+use Rattle.model.specs.Cut.{inTransit}
 use Rattle.model.proofs.Numbers.{never}
 use Rattle.model.proofs.Lists.{le-or-lt}
 use Rattle.model.proofs.Lattice.{first-unique}
+use Rattle.model.proofs.LowestStamp.{lowest-one, lowest-exactly}
 use Rattle.record.specs.declared.Refusal.{Refusal}
+use Rattle.run.specs.Said.{runIn}
 use Rattle.judged.specs.Judged.{Judged}
 use Rattle.run.specs.declared.RunReading.the-variants as R
 use Rattle.judged.proofs.Once.{judged-one}
@@ -24,7 +30,7 @@ use Rattle.questions.specs.declared.Counts.the-variants as N
 use Rattle.questions.specs.declared.Verdict.{Verdict}
 use Rattle.questions.specs.declared.Verdict.the-variants as W
 use Rattle.judged.specs.Accepted.{RunAccepted}
-use Rattle.cut.specs.Listing.{Wrote}
+use Rattle.cut.specs.Listing.{Wrote, WroteLowest}
 use Rattle.checker.specs.Answered.{Answered, AnsweredListed}
 use Rattle.checker.specs.Answered.Answered.{runRefused, condRefused, few, none, found}
 use Rattle.questions.specs.Questions.{AskedConsistent, AskedMessages, AskedEach, AskedSatisfies}
@@ -39,6 +45,17 @@ wrote-one {cut} {lent} {a} {b} v w = ext-getD 0 a b (v .long ∙ sym (w .long))
   where
     less : {i n : ℕ} → n < suc i → n ≤ i
     less l = omega arith
+
+-- so is the row of lowest stamps by the cut
+pub lowest-wrote-one : {r : Run} {cut : List ℕ} {n : ℕ} {stamps a b : List ℤ} → WroteLowest r cut n stamps a → WroteLowest r cut n stamps b → a ≡ b
+lowest-wrote-one {r} {cut} {n} {stamps} {a} {b} v w = ext-getD (pos 0) a b (v .long ∙ sym (w .long))
+    (λ c h. ⊎-elim (λ l. there c l (inTransit r cut c) refl) (λ l. v .past c (omega arith) ∙ sym (w .past c (omega arith))) (le-or-lt (suc c) n))
+  where
+    there : (c : ℕ) → c < n → (ms : List Message) → inTransit r cut c ≡ ms → getD a c (pos 0) ≡ getD b c (pos 0)
+    there c l [] e = v .empty c l e ∙ sym (w .empty c l e)
+    there c l (m ∷ ms) e =
+        let (x, u) = lowest-exactly (inTransit r cut c) .1 (λ d. never (cc)) in
+        v .lowest c x l u ∙ sym (w .lowest c x l u)
 
 -- a condition is refused once, and no accepted one is refused
 pub refused-once : {v : D.Read} {x y : Refusal} → v ≡ refused x → v ≡ refused y → x ≡ y
@@ -82,16 +99,19 @@ module _ {s : List ℕ} where
   answered-one (found v h cut f g) (none v′ h′ n′ e′) = absurd (n′ cut (f .satisfies))
   answered-one (found v h cut f g) (found v′ h′ cut′ f′ g′) = (refl, wrote-one g (rw (first-unique f f′) g′))
 
-  pub listed-one : {c lent l m row q r : List ℕ} {a b : Answer} → AnsweredListed s c lent l row q a → AnsweredListed s c lent m row r b → (a ≡ b) × (l ≡ m) × (q ≡ r)
-  listed-one (AnsweredListed.fewRow v h d e) (AnsweredListed.fewRow v′ h′ d′ e′) = (refl, d ∙ sym d′, e ∙ sym e′)
-  listed-one (AnsweredListed.fewRow v h d e) (AnsweredListed.unlisted b n g w e′) = absurd (omega (arith, h, g v))
-  listed-one (AnsweredListed.fewRow v h d e) (AnsweredListed.listed g w cut f u) = absurd (omega (arith, h, g))
-  listed-one (AnsweredListed.unlisted a n g w e) (AnsweredListed.fewRow v h d e′) = absurd (omega (arith, h, g v))
-  listed-one (AnsweredListed.unlisted a n g w e) (AnsweredListed.unlisted b n′ g′ w′ e′) = let (x, y) = answered-one w w′ in (x, y, e ∙ sym e′)
-  listed-one (AnsweredListed.unlisted a n g w e) (AnsweredListed.listed h w′ cut f u) = absurd (n (answered-one w w′ .0))
-  listed-one (AnsweredListed.listed g w cut f u) (AnsweredListed.fewRow v h d e) = absurd (omega (arith, h, g))
-  listed-one (AnsweredListed.listed g w cut f u) (AnsweredListed.unlisted b n h w′ e) = absurd (n (answered-one w′ w .0))
-  listed-one (AnsweredListed.listed g w cut f u) (AnsweredListed.listed h w′ cut′ f′ u′) = (refl, answered-one w w′ .1, wrote-one u (rw (first-unique f f′) u′))
+  pub listed-one : {c lent l m counts q r : List ℕ} {stamps t u : List ℤ} {a b : Answer} → AnsweredListed s c lent l counts q stamps t a → AnsweredListed s c lent m counts r stamps u b
+      → (a ≡ b) × (l ≡ m) × (q ≡ r) × (t ≡ u)
+  listed-one (AnsweredListed.fewRow v h d e f) (AnsweredListed.fewRow v′ h′ d′ e′ f′) = (refl, d ∙ sym d′, e ∙ sym e′, f ∙ sym f′)
+  listed-one (AnsweredListed.fewRow v h d e f) (AnsweredListed.unlisted b n g w e′ f′) = absurd (h (g v))
+  listed-one (AnsweredListed.fewRow v h d e f) (AnsweredListed.listed g w cut i x y) = absurd (h g)
+  listed-one (AnsweredListed.unlisted a n g w e f) (AnsweredListed.fewRow v h d e′ f′) = absurd (h (g v))
+  listed-one (AnsweredListed.unlisted a n g w e f) (AnsweredListed.unlisted b n′ g′ w′ e′ f′) = let (x, y) = answered-one w w′ in (x, y, e ∙ sym e′, f ∙ sym f′)
+  listed-one (AnsweredListed.unlisted a n g w e f) (AnsweredListed.listed h w′ cut i x y) = absurd (n (answered-one w w′ .0))
+  listed-one (AnsweredListed.listed g w cut i x y) (AnsweredListed.fewRow v h d e f) = absurd (h g)
+  listed-one (AnsweredListed.listed g w cut i x y) (AnsweredListed.unlisted b n h w′ e f) = absurd (n (answered-one w′ w .0))
+  listed-one (AnsweredListed.listed g w cut i x y) (AnsweredListed.listed h w′ cut′ i′ x′ y′) =
+      let same = first-unique i i′ in
+      (refl, answered-one w w′ .1, wrote-one x (rw same x′), lowest-wrote-one y (rw same y′))
 
   pub consistent-one : {cut : List ℕ} {a b : Verdict} → AskedConsistent s cut a → AskedConsistent s cut b → a ≡ b
   consistent-one (AskedConsistent.runRefused x j) (AskedConsistent.runRefused y k) = ap W.Refused (same-refusal j k)
@@ -115,37 +135,46 @@ module _ {s : List ℕ} where
   messages-one (AskedMessages.runRefused x j) (AskedMessages.runRefused y k) = ap C.Refused (same-refusal j k)
   messages-one (AskedMessages.runRefused x j) (AskedMessages.notCut k m) = absurd (not-both j k)
   messages-one (AskedMessages.runRefused x j) (AskedMessages.noSuchChannel k l h) = absurd (not-both j k)
-  messages-one (AskedMessages.runRefused x j) (AskedMessages.messages k l h) = absurd (not-both j k)
+  messages-one (AskedMessages.runRefused x j) (AskedMessages.empty k l h e) = absurd (not-both j k)
+  messages-one (AskedMessages.runRefused x j) (AskedMessages.messages k l h y v) = absurd (not-both j k)
   messages-one (AskedMessages.notCut j n) (AskedMessages.runRefused y k) = absurd (not-both k j)
   messages-one (AskedMessages.notCut j n) (AskedMessages.notCut k m) = refl
   messages-one (AskedMessages.notCut j n) (AskedMessages.noSuchChannel k l h) = absurd (n l)
-  messages-one (AskedMessages.notCut j n) (AskedMessages.messages k l h) = absurd (n l)
+  messages-one (AskedMessages.notCut j n) (AskedMessages.empty k l h e) = absurd (n l)
+  messages-one (AskedMessages.notCut j n) (AskedMessages.messages k l h y v) = absurd (n l)
   messages-one (AskedMessages.noSuchChannel j i g) (AskedMessages.runRefused y k) = absurd (not-both k j)
   messages-one (AskedMessages.noSuchChannel j i g) (AskedMessages.notCut k m) = absurd (m i)
   messages-one (AskedMessages.noSuchChannel j i g) (AskedMessages.noSuchChannel k l h) = refl
-  messages-one (AskedMessages.noSuchChannel j i g) (AskedMessages.messages k l h) = absurd (omega (arith, g, h))
-  messages-one (AskedMessages.messages j i g) (AskedMessages.runRefused y k) = absurd (not-both k j)
-  messages-one (AskedMessages.messages j i g) (AskedMessages.notCut k m) = absurd (m i)
-  messages-one (AskedMessages.messages j i g) (AskedMessages.noSuchChannel k l h) = absurd (omega (arith, g, h))
-  messages-one (AskedMessages.messages j i g) (AskedMessages.messages k l h) = refl
+  messages-one (AskedMessages.noSuchChannel j i g) (AskedMessages.empty k l h e) = absurd (omega (arith, g, h))
+  messages-one (AskedMessages.noSuchChannel j i g) (AskedMessages.messages k l h y v) = absurd (omega (arith, g, h))
+  messages-one (AskedMessages.empty j i g d) (AskedMessages.runRefused y k) = absurd (not-both k j)
+  messages-one (AskedMessages.empty j i g d) (AskedMessages.notCut k m) = absurd (m i)
+  messages-one (AskedMessages.empty j i g d) (AskedMessages.noSuchChannel k l h) = absurd (omega (arith, g, h))
+  messages-one (AskedMessages.empty j i g d) (AskedMessages.empty k l h e) = refl
+  messages-one (AskedMessages.empty j i g d) (AskedMessages.messages k l h y v) = absurd (lowest-exactly _ .0 (y, v) d)
+  messages-one (AskedMessages.messages j i g x w) (AskedMessages.runRefused y k) = absurd (not-both k j)
+  messages-one (AskedMessages.messages j i g x w) (AskedMessages.notCut k m) = absurd (m i)
+  messages-one (AskedMessages.messages j i g x w) (AskedMessages.noSuchChannel k l h) = absurd (omega (arith, g, h))
+  messages-one (AskedMessages.messages j i g x w) (AskedMessages.empty k l h e) = absurd (lowest-exactly _ .0 (x, w) e)
+  messages-one {cut} {channel} (AskedMessages.messages j i g x w) (AskedMessages.messages k l h y v) = ap (C.Messages (length (inTransit (runIn s) cut channel))) (lowest-one w v)
 
-  pub each-one : {cut lent l m : List ℕ} {a b : Counts} → AskedEach s cut lent l a → AskedEach s cut lent m b → (a ≡ b) × (l ≡ m)
-  each-one (AskedEach.runRefused x j d) (AskedEach.runRefused y k e) = (ap N.Refused (same-refusal j k), d ∙ sym e)
-  each-one (AskedEach.runRefused x j d) (AskedEach.notCut k m e) = absurd (not-both j k)
-  each-one (AskedEach.runRefused x j d) (AskedEach.few k l h e) = absurd (not-both j k)
-  each-one (AskedEach.runRefused x j d) (AskedEach.listed k l h v) = absurd (not-both j k)
-  each-one (AskedEach.notCut j n d) (AskedEach.runRefused y k e) = absurd (not-both k j)
-  each-one (AskedEach.notCut j n d) (AskedEach.notCut k m e) = (refl, d ∙ sym e)
-  each-one (AskedEach.notCut j n d) (AskedEach.few k l h e) = absurd (n l)
-  each-one (AskedEach.notCut j n d) (AskedEach.listed k l h v) = absurd (n l)
-  each-one (AskedEach.few j i g d) (AskedEach.runRefused y k e) = absurd (not-both k j)
-  each-one (AskedEach.few j i g d) (AskedEach.notCut k m e) = absurd (m i)
-  each-one (AskedEach.few j i g d) (AskedEach.few k l h e) = (refl, d ∙ sym e)
-  each-one (AskedEach.few j i g d) (AskedEach.listed k l h v) = absurd (omega (arith, g, h))
-  each-one (AskedEach.listed j i g w) (AskedEach.runRefused y k e) = absurd (not-both k j)
-  each-one (AskedEach.listed j i g w) (AskedEach.notCut k m e) = absurd (m i)
-  each-one (AskedEach.listed j i g w) (AskedEach.few k l h e) = absurd (omega (arith, g, h))
-  each-one (AskedEach.listed j i g w) (AskedEach.listed k l h v) = (refl, wrote-one w v)
+  pub each-one : {cut counts l m : List ℕ} {stamps q r : List ℤ} {a b : Counts} → AskedEach s cut counts l stamps q a → AskedEach s cut counts m stamps r b → (a ≡ b) × (l ≡ m) × (q ≡ r)
+  each-one (AskedEach.runRefused x j d d′) (AskedEach.runRefused y k e e′) = (ap N.Refused (same-refusal j k), d ∙ sym e, d′ ∙ sym e′)
+  each-one (AskedEach.runRefused x j d d′) (AskedEach.notCut k m e e′) = absurd (not-both j k)
+  each-one (AskedEach.runRefused x j d d′) (AskedEach.few k l h e e′) = absurd (not-both j k)
+  each-one (AskedEach.runRefused x j d d′) (AskedEach.listed k l h v y) = absurd (not-both j k)
+  each-one (AskedEach.notCut j n d d′) (AskedEach.runRefused y k e e′) = absurd (not-both k j)
+  each-one (AskedEach.notCut j n d d′) (AskedEach.notCut k m e e′) = (refl, d ∙ sym e, d′ ∙ sym e′)
+  each-one (AskedEach.notCut j n d d′) (AskedEach.few k l h e e′) = absurd (n l)
+  each-one (AskedEach.notCut j n d d′) (AskedEach.listed k l h v y) = absurd (n l)
+  each-one (AskedEach.few j i g d d′) (AskedEach.runRefused y k e e′) = absurd (not-both k j)
+  each-one (AskedEach.few j i g d d′) (AskedEach.notCut k m e e′) = absurd (m i)
+  each-one (AskedEach.few j i g d d′) (AskedEach.few k l h e e′) = (refl, d ∙ sym e, d′ ∙ sym e′)
+  each-one (AskedEach.few j i g d d′) (AskedEach.listed k l h v y) = absurd (g h)
+  each-one (AskedEach.listed j i g w x) (AskedEach.runRefused y k e e′) = absurd (not-both k j)
+  each-one (AskedEach.listed j i g w x) (AskedEach.notCut k m e e′) = absurd (m i)
+  each-one (AskedEach.listed j i g w x) (AskedEach.few k l h e e′) = absurd (h g)
+  each-one (AskedEach.listed j i g w x) (AskedEach.listed k l h v y) = (refl, wrote-one w v, lowest-wrote-one x y)
 
   pub satisfies-one : {c cut : List ℕ} {a b : Verdict} → AskedSatisfies s c cut a → AskedSatisfies s c cut b → a ≡ b
   satisfies-one (AskedSatisfies.runRefused x j) (AskedSatisfies.runRefused y k) = ap W.Refused (same-refusal j k)

@@ -12,6 +12,8 @@ use Rattle.model.specs.Run.{Run, processes, IsState, into, state, paired}
 use Rattle.model.specs.Known.{Known}
 use Rattle.model.specs.Cut.{AfterCircle, at, IsCut, Consistent, ClockIs, inTransit}
 use Rattle.model.specs.Clause.{Clause, Satisfies, First}
+use Rattle.model.specs.LowestStamp.{LowestStamp}
+use Rattle.model.proofs.LowestStamp.{lowest-first}
 use Rattle.model.specs.Clause.Clause.{local, on}
 use Rattle.model.specs.Clause.Comparison.{equal, atLeast}
 use Rattle.model.specs.Clause.Test.{countAtMost, countAtLeast, countIs, everyAtLeast, someAtMost}
@@ -93,18 +95,18 @@ condition-7 = 6 ∷ 0 ∷ 16 ∷ 0 ∷ 1 ∷ 0 ∷ 12 ∷ 0 ∷ 18 ∷ 0 ∷ 0 �
 pub condition-8 : List ℕ
 condition-8 = 6 ∷ 0 ∷ 16 ∷ 0 ∷ 1 ∷ 0 ∷ 12 ∷ 0 ∷ 18 ∷ 0 ∷ 0 ∷ 0 ∷ 7 ∷ 0 ∷ 4 ∷ 0 ∷ 0 ∷ 0 ∷ 4 ∷ 0 ∷ 4 ∷ 0 ∷ []
 
--- a case: whether a cut is consistent, what the search says, how many messages a channel holds; and what is refused where the clock has a 2 in place of the 1
+-- a case: whether a cut is consistent, what the search says, what is in transit on a channel; and what is refused where the clock has a 2 in place of the 1
 pub data Case : Type 0 where
   cut : List ℕ → Verdict → Case
   search : (condition : List ℕ) → Option (List ℕ) → Case
-  messages : (cut : List ℕ) (channel count : ℕ) → Case
+  messages : (cut : List ℕ) (channel : ℕ) → Count → Case
   refused : (number place : ℕ) → Case
 
 abbrev pub Says : Case → Type 0
 Says (cut d a) = AskedConsistent (desks 1) d a
 Says (search c (some d)) = (lent lent′ : List ℕ) → 2 ≤ length lent → Wrote d lent lent′ → Answered (desks 1) c lent lent′ A.Found
 Says (search c none) = (lent : List ℕ) → 2 ≤ length lent → Answered (desks 1) c lent lent A.None
-Says (messages d h n) = AskedMessages (desks 1) d h (C.Messages n)
+Says (messages d h a) = AskedMessages (desks 1) d h a
 Says (refused n place) = (c lent : List ℕ) → Answered (desks 2) c lent lent (A.Refused (refusal F.Run n place))
 
 pub table : List Case
@@ -113,13 +115,13 @@ table =
     ∷ cut (2 ∷ 1 ∷ []) Yes ∷ cut (2 ∷ 2 ∷ []) Yes ∷ cut (2 ∷ 3 ∷ []) Yes
     ∷ cut (3 ∷ 1 ∷ []) Yes ∷ cut (3 ∷ 2 ∷ []) Yes ∷ cut (3 ∷ 3 ∷ []) Yes
     ∷ search condition-2 (some (1 ∷ 1 ∷ []))
-    ∷ search condition-3 (some (2 ∷ 1 ∷ []))
+    ∷ search condition-3 (some (2 ∷ 1 ∷ [])) ∷ messages (2 ∷ 1 ∷ []) 0 (C.Messages 1 (pos 5))
     ∷ search condition-4 (some (2 ∷ 2 ∷ []))
     ∷ search condition-5 (some (2 ∷ 3 ∷ []))
     ∷ search condition-6 none
     ∷ search condition-7 (some (1 ∷ 1 ∷ []))
     ∷ search condition-8 none
-    ∷ messages (1 ∷ 2 ∷ []) 0 0
+    ∷ messages (1 ∷ 2 ∷ []) 0 C.Empty
     ∷ refused 13 172
     ∷ []
 
@@ -268,10 +270,16 @@ module _ (d : List ℕ) (there : T (cut? M.desks d)) where
   at-no : ¬ T (consistent? M.desks d) → Says (cut d No)
   at-no n = AskedConsistent.no run-accepted ours (λ w. n (by-test .1 (subst (λ r. Consistent r d) (run-is 1) w)))
 
-at-early : Says (messages (1 ∷ 2 ∷ []) 0 0)
+at-early : Says (messages (1 ∷ 2 ∷ []) 0 C.Empty)
 unfolding desks headOf u16At M.desks M.row M.note
-at-early = subst (λ n. AskedMessages (desks 1) (1 ∷ 2 ∷ []) 0 (C.Messages n)) (ap (λ r. length (inTransit r (1 ∷ 2 ∷ []) 0)) (run-is 1) ∙ M.early)
-    (AskedMessages.messages run-accepted (ours (1 ∷ 2 ∷ []) tt) (omega arith))
+at-early = AskedMessages.empty run-accepted (ours (1 ∷ 2 ∷ []) tt) (omega arith) (ap (λ r. inTransit r (1 ∷ 2 ∷ []) 0) (run-is 1) ∙ M.early)
+
+at-sent : Says (messages (2 ∷ 1 ∷ []) 0 (C.Messages 1 (pos 5)))
+unfolding desks headOf u16At M.desks M.row M.note
+at-sent =
+    let e = ap (λ r. inTransit r (2 ∷ 1 ∷ []) 0) (run-is 1) ∙ M.sent in
+    subst (λ n. AskedMessages (desks 1) (2 ∷ 1 ∷ []) 0 (C.Messages n (pos 5))) (ap length e)
+    (AskedMessages.messages run-accepted (ours (2 ∷ 1 ∷ []) tt) (omega arith) (pos 5) (subst (λ ms. LowestStamp ms (pos 5)) (sym e) (lowest-first (M.note 0 7 (pos 5)))))
 
 -- ---- the theorem
 
@@ -300,7 +308,7 @@ marked =
     also at-yes (2 ∷ 1 ∷ []) tt tt also at-yes (2 ∷ 2 ∷ []) tt tt also at-yes (2 ∷ 3 ∷ []) tt tt
     also at-yes (3 ∷ 1 ∷ []) tt tt also at-yes (3 ∷ 2 ∷ []) tt tt also at-yes (3 ∷ 3 ∷ []) tt tt
     also at-first condition-2 _ _ (conditions .0) (row 0 (omega arith))
-    also at-first condition-3 _ _ (conditions .1) (row 1 (omega arith))
+    also at-first condition-3 _ _ (conditions .1) (row 1 (omega arith)) also at-sent
     also at-first condition-4 _ _ (conditions .2) (row 2 (omega arith))
     also at-first condition-5 _ _ (conditions .3) (row 3 (omega arith))
     also at-none condition-6 _ (conditions .4) (row 4 (omega arith))
@@ -315,7 +323,7 @@ abbrev pub Only : Case → Type 0
 Only (cut d a) = (b : Verdict) → AskedConsistent (desks 1) d b → b ≡ a
 Only (search c (some d)) = (lent lent′ : List ℕ) (a : Answer) → 2 ≤ length lent → length d ≤ length lent → Answered (desks 1) c lent lent′ a → (a ≡ A.Found) × Wrote d lent lent′
 Only (search c none) = (lent lent′ : List ℕ) (a : Answer) → 2 ≤ length lent → Answered (desks 1) c lent lent′ a → (a ≡ A.None) × (lent′ ≡ lent)
-Only (messages d h n) = (b : Count) → AskedMessages (desks 1) d h b → b ≡ C.Messages n
+Only (messages d h a) = (b : Count) → AskedMessages (desks 1) d h b → b ≡ a
 Only (refused n place) = (c lent lent′ : List ℕ) (a : Answer) → Answered (desks 2) c lent lent′ a → (a ≡ A.Refused (refusal F.Run n place)) × (lent′ ≡ lent)
 
 only : (k : Case) → Says k → Only k
@@ -325,7 +333,7 @@ only (search c (some d)) w = λ lent lent′ a h l v.
     let o = answered-one v (w lent (d ++ drop (length d) lent) h x) in
     (o .0, subst (Wrote d lent) (sym (o .1)) x)
 only (search c none) w = λ lent lent′ a h v. answered-one v (w lent h)
-only (messages d h n) w = λ b v. messages-one v w
+only (messages d h a) w = λ b v. messages-one v w
 only (refused n place) w = λ c lent lent′ a v. answered-one v (w c lent)
 
 pub marked-only : (k : Case) → List·Memᴰ k table → Only k

@@ -7,6 +7,7 @@ use Prim.Native.Nat.{ℕ, zero, suc, _+_, _≤_, _<_}
 use native.Mathlib.Omega.{arith}
 use borrow.Author.Tests.{eqb-true, eqb-false}
 use lib.Dec.{T, eqb, eqb→eq, ltb}
+use lib.IntN.{ℤ}
 use lib.ListN.{length}
 use Rattle.model.specs.Clause.{someOf, everyOf}
 use Rattle.model.proofs.Lists.{le-or-lt, or-T, every-mem}
@@ -224,10 +225,10 @@ search-gives x (none b h n d) e = never (cc)
 search-gives x (found b h cut f w) e = never (cc)
 
 -- `first_cut_listed`
-pub listed-gives : {s c lent lent′ row row′ : List ℕ} {a : Answer} (x : Refusal) → AnsweredListed s c lent lent′ row row′ a → a ≡ A.Refused x → Gives (runNumbers ++ (15 ∷ [])) conditionNumbers x
-listed-gives x (AnsweredListed.fewRow b h d r) e = of-call _ _ 15 (in-list _ tt) (cc)
-listed-gives x (AnsweredListed.unlisted a n h w r) e = search-gives x w e
-listed-gives x (AnsweredListed.listed h w cut f v) e = never (cc)
+pub listed-gives : {s c lent lent′ counts counts′ : List ℕ} {stamps stamps′ : List ℤ} {a : Answer} (x : Refusal) → AnsweredListed s c lent lent′ counts counts′ stamps stamps′ a → a ≡ A.Refused x → Gives (runNumbers ++ (15 ∷ [])) conditionNumbers x
+listed-gives x (AnsweredListed.fewRow b h d r t) e = of-call _ _ 15 (in-list _ tt) (cc)
+listed-gives x (AnsweredListed.unlisted a n h w r t) e = search-gives x w e
+listed-gives x (AnsweredListed.listed h w cut f v u) e = never (cc)
 
 -- `is_consistent`
 pub consistent-gives : {s cut : List ℕ} {a : Verdict} (x : Refusal) → AskedConsistent s cut a → a ≡ Y.Refused x → Gives (runNumbers ++ (16 ∷ [])) [] x
@@ -241,14 +242,15 @@ pub messages-gives : {s cut : List ℕ} {channel : ℕ} {a : Count} (x : Refusal
 messages-gives x (AskedMessages.runRefused y j) e = of-run _ _ j (cc)
 messages-gives x (AskedMessages.notCut j n) e = of-call _ _ 16 (in-list _ tt) (cc)
 messages-gives x (AskedMessages.noSuchChannel j i h) e = of-call _ _ 17 (in-list _ tt) (cc)
-messages-gives x (AskedMessages.messages j i h) e = never (cc)
+messages-gives x (AskedMessages.empty j i h n) e = never (cc)
+messages-gives x (AskedMessages.messages j i h y w) e = never (cc)
 
 -- `messages_on_each`
-pub each-gives : {s cut lent lent′ : List ℕ} {a : Counts} (x : Refusal) → AskedEach s cut lent lent′ a → a ≡ N.Refused x → Gives (runNumbers ++ (15 ∷ 16 ∷ [])) [] x
-each-gives x (AskedEach.runRefused y j d) e = of-run _ _ j (cc)
-each-gives x (AskedEach.notCut j n d) e = of-call _ _ 16 (in-list _ tt) (cc)
-each-gives x (AskedEach.few j i h d) e = of-call _ _ 15 (in-list _ tt) (cc)
-each-gives x (AskedEach.listed j i h w) e = never (cc)
+pub each-gives : {s cut counts counts′ : List ℕ} {stamps stamps′ : List ℤ} {a : Counts} (x : Refusal) → AskedEach s cut counts counts′ stamps stamps′ a → a ≡ N.Refused x → Gives (runNumbers ++ (15 ∷ 16 ∷ [])) [] x
+each-gives x (AskedEach.runRefused y j d d′) e = of-run _ _ j (cc)
+each-gives x (AskedEach.notCut j n d d′) e = of-call _ _ 16 (in-list _ tt) (cc)
+each-gives x (AskedEach.few j i h d d′) e = of-call _ _ 15 (in-list _ tt) (cc)
+each-gives x (AskedEach.listed j i h w v) e = never (cc)
 
 -- `satisfies`
 pub satisfies-gives : {s c cut : List ℕ} {a : Verdict} (x : Refusal) → AskedSatisfies s c cut a → a ≡ Y.Refused x → Gives (runNumbers ++ (16 ∷ [])) conditionNumbers x

@@ -1,11 +1,12 @@
--- What is in transit as the sender goes on by one state: how many messages, and whether one of them passes a test.
-use mathlib.Core.Path.{_≡_, refl, sym, ap, _∙_}
+-- What is in transit as the sender goes on by one state, and what a scan has seen of it.
+use mathlib.Core.Path.{_≡_, refl, ap, _∙_}
 use mathlib.Core.Bool.{Bool, true, false, _||_}
 use mathlib.Core.List.{List, []}
 use mathlib.Core.Option.{Option, some, none}
 use Prim.Native.Nat.{ℕ, zero, suc, _+_, _≤_, _<_, zero-le}
 use native.Mathlib.Numerals.{add-one}
 use native.Mathlib.Omega.{arith}
+use lib.IntN.{ℤ}
 use lib.ListN.{length}
 use Rattle.model.specs.declared.Channel.{Channel}
 use Rattle.model.specs.declared.Message.{Message}
@@ -21,8 +22,10 @@ use Rattle.run.specs.Read.{readOf}
 use Rattle.record.specs.Pass.Read.{accepted}
 use Rattle.run.specs.Said.{statesOf, runIn}
 use Rattle.run.proofs.Listed.{sides, channels-are, channel-same}
+use Rattle.transit.specs.declared.Sought.{Sought}
 use Rattle.transit.specs.declared.Span.{Span}
 use Rattle.transit.specs.Asked.{Asked}
+use Rattle.transit.specs.Load.{SoFar, isSought}
 use Rattle.transit.specs.Waiting.{spanOf, OfChannel}
 use Rattle.transit.proofs.Stored.{states-few}
 
@@ -38,13 +41,16 @@ some-add f (some m) ms = go (f m)
     go true = refl
     go false = refl
 
+-- what a scan has seen of some messages, none of which has the stamp that is sought
+pub record Scanned (sought : Sought) (ms : List Message) (n : ℕ) (x : ℤ) : Type 0 where
+  pub unmet : someOf (isSought sought) ms ≡ false
+  pub count : n ≡ length ms
+  pub lowest : SoFar ms x
+
 module _ (r : Run) (c b k : ℕ) where
   next-between : between r c (k + 1) b ≡ add (waiting r c b (k + 1)) (between r c k b)
   unfolding between
   next-between = rw add-one refl
-
-  pub count-next : {n m : ℕ} → n ≡ length (between r c k b) → m ≡ length (add (waiting r c b (k + 1)) []) → n + m ≡ length (between r c (k + 1) b)
-  count-next d e = rw (d, e) (sym (ap length next-between ∙ length-add (waiting r c b (k + 1)) (between r c k b)))
 
   -- none so far, and whether the next one does
   pub some-next : (f : Message → Bool) → someOf f (between r c k b) ≡ false → someOf f (between r c (k + 1) b) ≡ someOf f (add (waiting r c b (k + 1)) [])
@@ -61,6 +67,14 @@ module _ (r : Run) (c b k : ℕ) where
       go : (t : Bool) → someOf f (between r c a b) ≡ t → t ≡ true
       go true d = refl
       go false d = absurd (not-T-of d (some-more f (between-more r c h (omega arith)) (T-of e)))
+
+  pub scanned-next : {sought : Sought} {n m : ℕ} {x y : ℤ} → Scanned sought (between r c k b) n x → someOf (isSought sought) (add (waiting r c b (k + 1)) []) ≡ false
+      → m ≡ length (add (waiting r c b (k + 1)) []) → SoFar (add (waiting r c b (k + 1)) (between r c k b)) y → Scanned sought (between r c (k + 1) b) (n + m) y
+  scanned-next {sought} {n} {m} w d e z = record {
+    unmet = some-next (isSought sought) (w .unmet) ∙ d;
+    count = omega (arith, w .count, e, ap length next-between, length-add (waiting r c b (k + 1)) (between r c k b));
+    lowest = rw next-between z;
+  }
 
 -- the ends of a channel, as its record says them
 pub record Ends (r : Run) (c : ℕ) (e : Channel) : Type 0 where
@@ -91,23 +105,24 @@ module _ {s ix cut : List ℕ} {c : ℕ} (w : Asked s ix cut c) {span : Span} (e
   span-channel = rw e refl
 
   -- the sender has all states up to the cut
-  pub span-state : {k : ℕ} → 1 ≤ k → k ≤ span .sent → IsState (runIn s) (span .from) k
+  pub span-sent : IsState (runIn s) (span .from) (span .sent)
   unfolding spanOf
-  span-state h g =
+  span-sent =
       let read = w .index .listed .read in
-      let from = sides s read .ends c (omega (arith, channels-are s read, w .there)) .0 in
-      rw e (record { counted = h; there = omega (arith, w .isCut .states _ from .there, rw e at g) })
+      rw e (w .isCut .states _ (sides s read .ends c (omega (arith, channels-are s read, w .there)) .0))
+
+  pub span-state : {k : ℕ} → 1 ≤ k → k ≤ span .sent → IsState (runIn s) (span .from) k
+  span-state h g = record { counted = h; there = omega (arith, span-sent .there, g) }
 
   pub span-transit : between (runIn s) (span .channel) (span .sent) (span .received) ≡ inTransit (runIn s) cut c
   unfolding spanOf inTransit
   span-transit = rw e refl
 
-  -- no more messages than the sender has states
-  pub span-few : length (inTransit (runIn s) cut c) ≤ 512
-  unfolding between spanOf
-  span-few =
-      let read = w .index .listed .read in
-      let from = sides s read .ends c (omega (arith, channels-are s read, w .there)) .0 in
-      let few = upTo-few (waiting (runIn s) (span .channel) (span .received)) (span .sent) in
-      let sent = ap (λ (x : Span). x .sent) e in
-      omega (arith, few, ap length span-transit, sent, states-few (w .index) (w .isCut .states _ from))
+-- no more messages than the sender has states
+pub in-transit-few : {s ix cut : List ℕ} {c : ℕ} → Asked s ix cut c → length (inTransit (runIn s) cut c) ≤ 512
+unfolding between inTransit
+in-transit-few {s} {ix} {cut} {c} w =
+    let read = w .index .listed .read in
+    let from = sides s read .ends c (omega (arith, channels-are s read, w .there)) .0 in
+    let few = upTo-few (waiting (runIn s) c (at cut (channel (runIn s) c .to))) (at cut (channel (runIn s) c .from)) in
+    omega (arith, few, states-few (w .index) (w .isCut .states _ from))

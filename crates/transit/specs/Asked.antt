@@ -1,8 +1,6 @@
 -- What a question about a channel at a cut is given.
-use mathlib.Core.Path.{_≡_}
 use mathlib.Core.List.{List}
-use Prim.Native.Nat.{ℕ, _≤_, _<_}
-use lib.ListN.{length}
+use Prim.Native.Nat.{ℕ, _<_}
 use Rattle.model.specs.Cut.{IsCut}
 use Rattle.record.specs.Record.{headOf}
 use Rattle.run.specs.Said.{runIn}
@@ -13,10 +11,3 @@ pub record Asked (s ix cut : List ℕ) (channel : ℕ) : Type 0 where
   pub index : IndexHolds s ix
   pub isCut : IsCut (runIn s) cut
   pub there : channel < headOf s .channels
-
--- what listing all channels is given: lent places for each of them too
-pub record Countable (s ix cut : List ℕ) (channels : ℕ) (lent : List ℕ) : Type 0 where
-  pub index : IndexHolds s ix
-  pub isCut : IsCut (runIn s) cut
-  pub all : channels ≡ headOf s .channels
-  pub room : channels ≤ length lent

@@ -1,2 +1,3 @@
 pub mod Asked
+pub mod Load
 pub mod Waiting

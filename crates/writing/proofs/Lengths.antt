@@ -7,8 +7,12 @@ use native.Mathlib.Nat.{pow-suc, div-lt-iff-lt-mul}
 use native.Mathlib.Omega.{arith}
 use borrow.Author.Tests.{ltb-false}
 use lib.Dec.{ltb}
+use lib.IntN.{ℤ, pos, negsuc}
 use lib.ListN.{length, getD, length-append}
-use Rattle.writing.specs.Text.{bytes, digits, decimal, spaced, numberLine, pairLine, rowLines}
+use mir.Syntax.{w32}
+use mir.Val.{SFits}
+use Rattle.writing.specs.Text.{bytes, digits, decimal, signed, spaced, pairLine, rowLines}
+use Rattle.writing.proofs.Lines.{lines-short, rowLineAt, row-lines}
 
 digits-short : (f k n : ℕ) → n < 10 ^ suc k → length (digits f n) ≤ suc k
 unfolding digits
@@ -27,21 +31,23 @@ pub decimal-short : (k n : ℕ) → n < 10 ^ suc k → length (decimal n) ≤ su
 unfolding decimal
 decimal-short k n h = digits-short (suc n) k n h
 
-pub number-line-long : (w : List ℕ) (n : ℕ) → length (numberLine w n) ≡ length w + length (decimal n) + 2
-unfolding numberLine spaced bytes
-number-line-long w n = simp length-append (omega arith)
-
 pub pair-line-long : (w : List ℕ) (a b : ℕ) → length (pairLine w a b) ≡ length w + length (decimal a) + length (decimal b) + 3
 unfolding pairLine spaced bytes
 pair-line-long w a b = simp length-append (omega arith)
 
+-- 32 bits hold at most ten digits and a sign
+pub signed-short : (x : ℤ) → SFits w32 x → length (signed x) ≤ 11
+unfolding signed bytes
+signed-short (pos n) fits = omega (arith, decimal-short 9 n (omega (arith, fits .sfits)))
+signed-short (negsuc n) fits = omega (arith, decimal-short 9 (suc n) (omega (arith, fits .sfits)))
+
 -- the numbers of the lines have at most d + 1 digits, those of the row at most five
-pub row-lines-short : (w : List ℕ) (d i : ℕ) (row : List ℕ) → i + length row ≤ 10 ^ suc d → ((k : ℕ) → getD row k 0 < 65536)
-    → length (rowLines w i row) ≤ length row * (length w + d + 9)
-unfolding rowLines
-row-lines-short w d i [] h small = omega arith
-row-lines-short w d i (n ∷ row) h small =
-    let rest = row-lines-short w d (suc i) row (omega arith) (λ k. small (suc k)) in
-    let first = decimal-short d i (omega arith) in
-    let second = decimal-short 4 n (omega (arith, small 0)) in
-    omega (arith, length-append (pairLine w i n) (rowLines w (suc i) row), pair-line-long w i n)
+pub row-lines-short : (w : List ℕ) (d : ℕ) (row : List ℕ) → length row ≤ 10 ^ suc d → ((k : ℕ) → getD row k 0 < 65536)
+    → length (rowLines w 0 row) ≤ length row * (length w + d + 9)
+row-lines-short w d row h small = rw (row-lines w row) at (lines-short (rowLineAt w row) (length w + d + 9) (length row) each)
+  where
+    each : (j : ℕ) → j < length row → length (rowLineAt w row j) ≤ length w + d + 9
+    each j g =
+        let first = decimal-short d j (omega arith) in
+        let second = decimal-short 4 (getD row j 0) (omega (arith, small j)) in
+        omega (arith, pair-line-long w j (getD row j 0))

@@ -1,15 +1,15 @@
 -- Bytes put one after the other are put as one.
 use mathlib.Core.Path.{_≡_, refl, sym, ap, _∙_}
 use mathlib.Core.Logic.{⊎-elim}
-use mathlib.Core.List.{List, [], _∷_, _++_, append-assoc, append-nil}
+use mathlib.Core.List.{List, [], _∷_, _++_}
 use Prim.Native.Nat.{ℕ, suc, _+_, _≤_, _<_, min}
 use native.Mathlib.Numerals.{add-one}
 use native.Mathlib.Omega.{arith}
 use lib.ListN.{length, getD, take, set, length-append}
-use lib.Seq.{length-take-le, take-all, take-suc, set-out, sets, length-sets}
+use lib.Seq.{take-all, take-suc, set-out, sets, length-sets}
 use Rattle.model.proofs.Lists.{le-or-lt}
 use Rattle.writing.specs.Stored.{Put, last}
-use Rattle.writing.specs.Text.{pairLine, rowLines}
+use Rattle.writing.proofs.Lines.{linesTo}
 
 sets-out : (b : List ℕ) (at : ℕ) (x : List ℕ) → length b ≤ at → sets b at x ≡ b
 sets-out b at [] h = refl
@@ -63,29 +63,11 @@ module _ (x : List ℕ) {b b₁ : List ℕ} {i at middle : ℕ} (p : Put (take i
   pub put-all : length x ≤ i → Put x at middle b b₁
   put-all h = rw (take-all i x h) at p
 
--- ---- a row line by line
+-- ---- line by line
 
-module _ (word : List ℕ) where
-  row-last : (k : ℕ) (row : List ℕ) (n : ℕ) → rowLines word k (row ++ (n ∷ [])) ≡ rowLines word k row ++ pairLine word (k + length row) n
-  unfolding rowLines
-  row-last k [] n = let e : k ≡ k + 0 = omega arith in append-nil (pairLine word k n) ∙ ap (λ (j : ℕ). pairLine word j n) e
-  row-last k (m ∷ row) n =
-      let e : suc k + length row ≡ k + suc (length row) = omega arith in
-      rw (row-last (suc k) row n, e) (sym (append-assoc (pairLine word k m) (rowLines word (suc k) row) (pairLine word (k + suc (length row)) n)))
+module _ (line : ℕ → List ℕ) {b b₁ : List ℕ} {i at middle : ℕ} (p : Put (linesTo line i) at middle b b₁) where
+  pub lines-next : {b₂ : List ℕ} {next : ℕ} → Put (line i) middle next b₁ b₂ → Put (linesTo line (i + 1)) at next b b₂
+  lines-next q = rw add-one (put-then p q)
 
-  row-next : (row : List ℕ) (i : ℕ) → i < length row → rowLines word 0 (take (i + 1) row) ≡ rowLines word 0 (take i row) ++ pairLine word i (getD row i 0)
-  row-next row i h =
-      let e : 0 + length (take i row) ≡ i = omega (arith, length-take-le i row (omega arith)) in
-      rw (add-one, take-suc row i 0 h, row-last 0 (take i row) (getD row i 0), e) refl
-
-  pub lines-none : {b : List ℕ} {at : ℕ} → length b < last → at ≤ last → Put (rowLines word 0 []) at at b b
-  unfolding rowLines
-  lines-none = put-none
-
-  module _ (row : List ℕ) {b b₁ : List ℕ} {i at middle : ℕ} (p : Put (rowLines word 0 (take i row)) at middle b b₁) where
-    pub lines-next : {b₂ : List ℕ} {next : ℕ} → i < length row → Put (pairLine word i (getD row i 0)) middle next b₁ b₂
-        → Put (rowLines word 0 (take (i + 1) row)) at next b b₂
-    lines-next h q = rw (row-next row i h) (put-then p q)
-
-    pub lines-all : length row ≤ i → Put (rowLines word 0 row) at middle b b₁
-    lines-all h = rw (take-all i row h) at p
+  pub lines-all : {k : ℕ} {whole : List ℕ} → i ≡ k → linesTo line k ≡ whole → Put whole at middle b b₁
+  lines-all e all = rw (ap (linesTo line) e ∙ all) at p

@@ -7,9 +7,10 @@ use native.Mathlib.Nat.{div-lt-self, div-add-mod', mod-lt}
 use native.Mathlib.Omega.{arith}
 use borrow.Author.Tests.{lt-ltb, le-ltb, ltb-true, ltb-false}
 use lib.Dec.{ltb}
-use lib.ListN.{length, drop}
+use lib.IntN.{ℤ, pos, negsuc}
+use lib.ListN.{length, drop, getD}
 use lib.Seq.{drop-append-seam}
-use Rattle.writing.specs.Text.{bytes, digits, decimal, spaced, numberLine, pairLine, rowLines}
+use Rattle.writing.specs.Text.{bytes, digits, decimal, signed, spaced, pairLine, rowLines}
 
 -- ---- a number
 
@@ -47,23 +48,38 @@ number-same n m b c s t h g e =
     let r : _≡_ {A = ℕ × List ℕ} (n, b ∷ s) (m, c ∷ t) = sym (read-number n b s h) ∙ ap (readOn 0) e ∙ read-number m c t g in
     (ap (λ p. p .0) r, ap (λ p. drop 1 (p .1)) r)
 
+-- ---- a signed number at the end of a line
+
+read-sign : (s : List ℕ) → readOn 0 (45 ∷ s) ≡ (0, 45 ∷ s)
+unfolding readOn
+read-sign s = refl
+
+-- digits and a newline aren't a sign and what comes after it
+no-sign : (n : ℕ) (s t : List ℕ) → decimal n ++ (10 ∷ s) ≡ 45 ∷ t → ⊥
+no-sign n s t e =
+    let r : _≡_ {A = ℕ × List ℕ} (n, 10 ∷ s) (0, 45 ∷ t) = sym (read-number n 10 s (omega arith)) ∙ ap (readOn 0) e ∙ read-sign t in
+    let z : _≡_ {A = ℕ} 10 45 = ap (λ p. getD (p .1) 0 0) r in
+    omega arith
+
+pub signed-same : (x y : ℤ) (s t : List ℕ) → signed x ++ (10 ∷ s) ≡ signed y ++ (10 ∷ t) → (x ≡ y) × (s ≡ t)
+unfolding signed bytes
+signed-same (pos n) (pos m) s t e =
+    let (number, rest) = number-same n m 10 10 s t (omega arith) (omega arith) e in
+    (ap pos number, rest)
+signed-same (pos n) (negsuc m) s t e = absurd (no-sign n s (decimal (suc m) ++ (10 ∷ t)) e)
+signed-same (negsuc n) (pos m) s t e = absurd (no-sign m t (decimal (suc n) ++ (10 ∷ s)) (sym e))
+signed-same (negsuc n) (negsuc m) s t e =
+    let (number, rest) = number-same (suc n) (suc m) 10 10 s t (omega arith) (omega arith) (ap (drop 1) e) in
+    (ap negsuc (omega (arith, number)), rest)
+
 -- ---- a line
 
 append-same : (w : List ℕ) {x y : List ℕ} → w ++ x ≡ w ++ y → x ≡ y
 append-same w {x} {y} e = sym (drop-append-seam w x) ∙ ap (drop (length w)) e ∙ drop-append-seam w y
 
-number-line-read : (w : List ℕ) (n : ℕ) (s : List ℕ) → numberLine w n ++ s ≡ w ++ (32 ∷ (decimal n ++ (10 ∷ s)))
-unfolding numberLine spaced bytes
-number-line-read w n s = simp append-assoc
-
 pair-line-read : (w : List ℕ) (a b : ℕ) (s : List ℕ) → pairLine w a b ++ s ≡ w ++ (32 ∷ (decimal a ++ (32 ∷ (decimal b ++ (10 ∷ s)))))
 unfolding pairLine spaced bytes
 pair-line-read w a b s = simp append-assoc
-
-pub number-line-same : (w : List ℕ) (n m : ℕ) → numberLine w n ≡ numberLine w m → n ≡ m
-number-line-same w n m e =
-    let r = append-same w (sym (number-line-read w n []) ∙ ap (λ l. l ++ []) e ∙ number-line-read w m []) in
-    number-same n m 10 10 [] [] (omega arith) (omega arith) (ap (drop 1) r) .0
 
 pub pair-line-same : (w : List ℕ) (a b c d : ℕ) (s t : List ℕ) → pairLine w a b ++ s ≡ pairLine w c d ++ t → (a ≡ c) × (b ≡ d) × (s ≡ t)
 pair-line-same w a b c d s t e =

@@ -6,6 +6,7 @@ use Prim.Native.Nat.{ℕ, zero, suc, _+_, _/_, _%_}
 use Prim.Native.String as S
 use Prim.Native.String.{String}
 use lib.Dec.{ltb}
+use lib.IntN.{ℤ, pos, negsuc}
 
 unfoldable pub bytes : String → List ℕ
 bytes S.[] = []
@@ -20,11 +21,13 @@ digits (suc f) n = cond (ltb n 10) ((48 + n) ∷ []) (digits f (n / 10) ++ ((48 
 unfoldable pub decimal : ℕ → List ℕ
 decimal n = digits (suc n) n
 
+-- negsuc n is one below -n
+unfoldable pub signed : ℤ → List ℕ
+signed (pos n) = decimal n
+signed (negsuc n) = bytes "-" ++ decimal (suc n)
+
 unfoldable pub spaced : ℕ → List ℕ
 spaced n = bytes " " ++ decimal n
-
-unfoldable pub numberLine : List ℕ → ℕ → List ℕ
-numberLine word n = word ++ spaced n ++ bytes "\n"
 
 unfoldable pub pairLine : List ℕ → ℕ → ℕ → List ℕ
 pairLine word a b = word ++ spaced a ++ spaced b ++ bytes "\n"

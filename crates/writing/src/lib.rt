@@ -2,7 +2,7 @@
 ghost use Prim.Native.Nat.{_+_, min};
 ghost use mathlib.Core.Path.{_≡_};
 ghost use lib.ListN.{set};
-ghost use Rattle.writing.specs.Text.{decimal, numberLine, pairLine, rowLines, spaced as Lines·spaced};
+ghost use Rattle.writing.specs.Text.{decimal, pairLine, rowLines, signed as Lines·signed, spaced as Lines·spaced};
 ghost use Rattle.writing.specs.Stored.{Put, last};
 
 // Past the buffer nothing is stored.
@@ -42,21 +42,23 @@ pub fn number(n: usize, at: usize, buffer: &mut [u8]) -> usize
     text(&digits[..k], at, buffer)
 }
 
+// `-5`: the bits of a negative number, each the other way, are one less than its size.
+pub fn signed(x: i32, at: usize, buffer: &mut [u8]) -> usize
+    ensures { λ r. ⌜ Put (Lines·signed x) at r (now (buffer .entry)) (now (buffer .exit)) ⌝ }
+{
+    if x < 0 {
+        let next = text(b"-", at, buffer);
+        return number((!x) as usize + 1, next, buffer);
+    }
+    number(x as usize, at, buffer)
+}
+
 // ` 7`: a number after a word.
 pub fn spaced(n: usize, at: usize, buffer: &mut [u8]) -> usize
     ensures { λ r. ⌜ Put (Lines·spaced n) at r (now (buffer .entry)) (now (buffer .exit)) ⌝ }
 {
     let next = text(b" ", at, buffer);
     number(n, next, buffer)
-}
-
-// `count 7`
-pub fn number_line(word: &[u8], n: usize, at: usize, buffer: &mut [u8]) -> usize
-    ensures { λ r. ⌜ Put (numberLine (now (word .entry)) n) at r (now (buffer .entry)) (now (buffer .exit)) ⌝ }
-{
-    let number = text(word, at, buffer);
-    let end = spaced(n, number, buffer);
-    text(b"\n", end, buffer)
 }
 
 // `state 0 2`

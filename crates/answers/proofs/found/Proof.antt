@@ -10,12 +10,12 @@ returns : tie.Need-returns
 unfolding foundLines bytes
 returns c =
     let channels = c .before .before in
-    let states = channels .before .before .before .before .before in
+    let states = channels .before .before .before .before in
     let word = states .before .before .before .before .before in
-    put-then (put-then (word .text .ensures) (states .row-lines .ensures)) (channels .row-lines2 .ensures)
+    put-then (put-then (word .text .ensures) (states .row-lines .ensures)) (channels .channel-lines .ensures)
 
 pub found-spec : {M : Type 1} → statement M
 found-spec =
     tie.close (tie.spec
-    (λ c. search needs) (λ c κs. search needs) (λ c. search needs) (λ c κs. search needs) (λ c. search needs)
-    (λ c κs. search needs) (λ c. search needs) returns)
+    (λ c. search needs) (λ c κs. search needs) (λ c. search needs) (λ c κs. search needs) (λ c κs. search needs)
+    (λ c. search needs) returns)

@@ -13,6 +13,7 @@ slice-aggregate-print-2 c = filled-front _ _ (c .before .before .filled2 .ensure
 pub judge-spec : {M : Type 1} → statement M
 judge-spec =
     tie.close (tie.spec
-    (λ c. search needs) (λ c. search needs) (λ c κs. search needs) (λ c κs. search needs) (λ c. search needs)
-    (λ c κs. search needs) (λ c. search needs) (λ c κs. search needs) (λ c. search needs) slice-aggregate-print
-    (λ c. search needs) slice-aggregate-print-2 (λ c κs. search needs) (λ c. search needs))
+    (λ c. search needs) (λ c. search needs) (λ c. search needs) (λ c κs. search needs) (λ c κs. search needs)
+    (λ c. search needs) (λ c κs. search needs) (λ c. search needs) (λ c κs. search needs) (λ c. search needs)
+    slice-aggregate-print (λ c. search needs) slice-aggregate-print-2 (λ c. search needs) (λ c κs. search needs)
+    (λ c. search needs))

@@ -7,7 +7,7 @@ use Rattle.checker.proofs.finding.first_cut_listed.Tie as tie
 
 listed-for-requires : tie.Need-listed-for-requires
 listed-for-requires c κs =
-    let m = c .before .before .before .before in
+    let m = c .before .before .before .before .before in
     judged-accepted _ _ (m .before .before .before .judge-run .ensures) (m .reading2 .given .1)
 
 returns : tie.Need-returns
@@ -17,4 +17,4 @@ pub first-cut-listed-spec : {M : Type 1} → statement M
 first-cut-listed-spec =
     tie.close (tie.spec
     (λ c. search needs) (λ c κs. search needs) (λ c. search needs) (λ c. search needs) (λ c. search needs)
-    listed-for-requires returns (λ c. search needs) (λ c. search needs) (λ c. search needs))
+    listed-for-requires returns (λ c. search needs) (λ c. search needs) (λ c. search needs) (λ c. search needs))

@@ -1,7 +1,7 @@
--- `with_channels` meets its contract: what isn't found leaves the row as it was, and the front of the lent places is the cut that was found.
+-- `with_channels` meets its contract: what isn't found leaves both rows as they were, and the front of the lent places is the cut that was found.
 use borrow.Author.Needs.{needs}
 use native.Mathlib.Omega.{arith}
-use mathlib.Core.Path.{refl, sym, ap}
+use mathlib.Core.Path.{refl, sym, ap, subst}
 use mathlib.Core.Logic.{_≢_}
 use mathlib.Core.List.{[], _∷_}
 use Prim.Native.Nat.{_≤_}
@@ -10,11 +10,12 @@ use lib.Seq.{length-take-le}
 use types.Run.{OneOf, miss}
 use denote.Enum.Declared.{tagOf}
 use Rattle.model.proofs.Numbers.{never}
+use Rattle.cut.specs.Listing.{Room}
 use Rattle.checker.specs.declared.Answer.{Answer}
 use Rattle.checker.specs.declared.Answer.the-variants as A
-use Rattle.checker.specs.Answered.AnsweredListed.{unlisted, listed}
+use Rattle.checker.specs.Answered.AnsweredListed.{unlisted}
 use Rattle.checker.proofs.Answer as E
-use Rattle.checker.proofs.Channels.{CutFound, found-cut, front-cut, front-each}
+use Rattle.checker.proofs.Channels.{CutFound, found-cut, front-cut, front-listed}
 use Rattle.checker.proofs.finding.with_channels.Statement.{statement}
 use Rattle.checker.proofs.finding.with_channels.Tie as tie
 
@@ -37,7 +38,8 @@ returns : tie.Need-returns
 returns c =
     let s = c .before .before .before in
     let r = entry s .pre in
-    unlisted _ (not-found _ (c .match .keys2)) (λ b. omega (arith, ap (λ h. h .channels) (r .0 .head), r .1)) (s .with-condition .ensures) refl
+    let a = entry s .args in
+    unlisted _ (not-found _ (c .match .keys2)) (λ b. subst (λ n. Room n (a .counts .now) (a .stamps .now)) (ap (λ h. h .channels) (r .0 .head)) (r .1)) (s .with-condition .ensures) refl refl
 
 -- the lent places are as many as before
 few : (k : tie.After-struct-known) → let s = sought k in entry s .args .head .processes ≤ length (s .with-condition .last .1 .1 .1 .1 .0)
@@ -45,30 +47,31 @@ few k =
     let u = cut k in
     omega (arith, ap (λ h. h .processes) (entry (sought k) .pre .0 .head), u .room, u .wrote .long)
 
-slice-reshare-prefix-count-each : tie.Need-slice-reshare-prefix-count-each
-slice-reshare-prefix-count-each c = few c
+slice-reshare-prefix-list-channels : tie.Need-slice-reshare-prefix-list-channels
+slice-reshare-prefix-list-channels c = few c
 
-slice-aggregate-count-each : tie.Need-slice-aggregate-count-each
-slice-aggregate-count-each c = sym (length-take-le _ _ (few (c .before)))
+slice-aggregate-list-channels : tie.Need-slice-aggregate-list-channels
+slice-aggregate-list-channels c = sym (length-take-le _ _ (few (c .before)))
 
-count-each-requires : tie.Need-count-each-requires
-count-each-requires c κs =
-    let k = c .before .before in
+list-channels-requires : tie.Need-list-channels-requires
+list-channels-requires c κs =
+    let k = c .before .before .before in
     let r = entry (sought k) .pre in
     record { index = r .0 .index; isCut = front-cut (r .0) (cut k); all = ap (λ h. h .channels) (r .0 .head); room = r .1 }
 
 returns-2 : tie.Need-returns-2
 returns-2 c =
-    let n = c .before .before in
-    let k = n .before .before .before in
+    let n = c .before .before .before in
+    let k = n .before .before .before .before in
     let s = sought k in
     let r = entry s .pre in
     let u = cut k in
-    listed (omega (arith, ap (λ h. h .channels) (r .0 .head), r .1)) (rw (← k .before .enum-told .given .1) (s .with-condition .ensures)) (u .row) (u .first) (front-each (r .0) u (n .count-each .ensures))
+    let (counts, stamps) = n .list-channels .ensures in
+    front-listed (r .0) (r .1) u (rw (← k .before .enum-told .given .1) (s .with-condition .ensures)) counts stamps
 
 pub with-channels-spec : {M : Type 1} → statement M
 with-channels-spec =
     tie.close (tie.spec
     (λ c κs. search needs) (λ c. search needs) (λ c. search needs) returns (λ c. search needs)
-    slice-reshare-prefix-count-each slice-aggregate-count-each count-each-requires (λ c. search needs)
-    (λ c. search needs) returns-2)
+    slice-reshare-prefix-list-channels slice-aggregate-list-channels list-channels-requires (λ c. search needs)
+    (λ c. search needs) (λ c. search needs) returns-2)

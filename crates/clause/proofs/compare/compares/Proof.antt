@@ -5,7 +5,7 @@ use borrow.Author.Tests.{ne-eqb}
 use lib.Signed.{leZ}
 use Rattle.model.specs.Clause.{sameZ}
 use Rattle.condition.specs.Clauses.{comparisonOf}
-use Rattle.clause.proofs.Signs.{both}
+use Rattle.transit.proofs.Signs.{both}
 use Rattle.clause.proofs.compare.compares.Statement.{statement}
 use Rattle.clause.proofs.compare.compares.Tie as tie
 

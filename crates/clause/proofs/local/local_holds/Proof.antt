@@ -11,7 +11,7 @@ use Rattle.record.specs.Layout.{valuePlace}
 use Rattle.run.specs.Index.{placeAt}
 use Rattle.run.proofs.Listed.{listed-slot}
 use Rattle.condition.specs.Clauses.{comparisonOf}
-use Rattle.clause.proofs.Signs.{both}
+use Rattle.transit.proofs.Signs.{both}
 use Rattle.transit.proofs.Stored.{value-whole, value-is}
 use Rattle.clause.proofs.local.local_holds.Statement.{statement}
 use Rattle.clause.proofs.local.local_holds.Tie as tie

@@ -6,6 +6,7 @@ use Rattle.model.specs.Cut.{IsCut}
 use Rattle.run.specs.Said.{runIn}
 use Rattle.questions.specs.Questions.{AskedMessages}
 use Rattle.questions.proofs.Cuts.{processes-few, told-cut, told-no-cut}
+use Rattle.questions.proofs.Loads.{load-answers}
 use Rattle.questions.proofs.messages.messages_in.Statement.{statement}
 use Rattle.questions.proofs.messages.messages_in.Tie as tie
 
@@ -31,19 +32,20 @@ returns-2 c =
     let r = entry (e .before) .pre in
     rw (c .refusal-of2 .ensures) (AskedMessages.noSuchChannel (r .accepted) (chosen e) (omega (arith, c .before .if2 .taken, ap (λ h. h .channels) (r .head))))
 
-count-on-requires : tie.Need-count-on-requires
-count-on-requires c κs =
+load-on-requires : tie.Need-load-on-requires
+load-on-requires c κs =
     let e = c .before .before in
     let r = entry (e .before) .pre in
     record { index = r .index; isCut = chosen e; there = omega (arith, c .if2 .left, ap (λ h. h .channels) (r .head)) }
 
 returns-3 : tie.Need-returns-3
 returns-3 c =
-    let e = c .before .before .before in
+    let l = c .before in
+    let e = l .before .before .before in
     let r = entry (e .before) .pre in
-    rw (c .count-on .ensures .0) (AskedMessages.messages (r .accepted) (chosen e) (omega (arith, c .before .if2 .left, ap (λ h. h .channels) (r .head))))
+    rw (c .as-count .ensures) (load-answers (r .accepted) (chosen e) (omega (arith, l .before .if2 .left, ap (λ h. h .channels) (r .head))) (l .load-on .ensures .0))
 
 pub messages-in-spec : {M : Type 1} → statement M
 messages-in-spec =
     tie.close (tie.spec
-    is-cut-requires (λ c κs. search needs) returns (λ c κs. search needs) returns-2 count-on-requires returns-3)
+    is-cut-requires (λ c κs. search needs) returns (λ c κs. search needs) returns-2 load-on-requires (λ c κs. search needs) returns-3)

@@ -10,4 +10,4 @@ pub channels-spec : {M : Type 1} → statement M
 channels-spec =
     tie.close (tie.spec
     (λ c κs. search needs) (λ c κs. search needs) slice-aggregate-messages-on-each (λ c κs. search needs)
-    (λ c. search needs) (λ c. search needs) (λ c. search needs) (λ c. search needs) (λ c. search needs) (λ c. search needs))
+    (λ c. search needs) (λ c. search needs) (λ c. search needs) (λ c. search needs) (λ c. search needs) (λ c. search needs) (λ c. search needs) (λ c. search needs))
