@@ -2,7 +2,7 @@
 // aren't linear, so no condition has them.
 use record::bytes::signed_of;
 use transit::Load;
-use transit::has_stamp;
+use transit::scan::has_stamp;
 ghost use mathlib.Core.Path.{_≡_};
 ghost use mathlib.Core.List.{List, []};
 ghost use Prim.Native.Nat.{_≤_};

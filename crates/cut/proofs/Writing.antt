@@ -107,12 +107,12 @@ module _ (n : ℕ) (counts : List ℕ) (stamps : List ℤ) where
   room-lacks e w = go (ltb (length counts) n) refl e
     where
       go : (b : Bool) → ltb (length counts) n ≡ b → (b || ltb (length stamps) n) ≡ true → ⊥
-      go true d e = omega (arith, ltb-true (length counts) n d, w .first)
-      go false d e = omega (arith, ltb-true (length stamps) n e, w .second)
+      go true d e = omega (arith, ltb-true (length counts) n d, w .counts)
+      go false d e = omega (arith, ltb-true (length stamps) n e, w .stamps)
 
   pub room-there : (ltb (length counts) n || ltb (length stamps) n) ≡ false → Room n counts stamps
   room-there e = go (ltb (length counts) n) refl e
     where
       go : (b : Bool) → ltb (length counts) n ≡ b → (b || ltb (length stamps) n) ≡ false → Room n counts stamps
       go true d e = never (cc)
-      go false d e = record { first = ltb-false (length counts) n d; second = ltb-false (length stamps) n e }
+      go false d e = record { counts = ltb-false (length counts) n d; stamps = ltb-false (length stamps) n e }

@@ -20,9 +20,9 @@ pub record Wrote (row lent lent′ : List ℕ) : Type 0 where
   pub past : (i : ℕ) → length row ≤ i → getD lent′ i 0 ≡ getD lent i 0
 
 -- a place for each of n channels in both rows
-pub record Room (n : ℕ) (counts : List ℕ) (stamps : List ℤ) : Type 0 where
-  pub first : n ≤ length counts
-  pub second : n ≤ length stamps
+pub record Room (n : ℕ) (row : List ℕ) (beside : List ℤ) : Type 0 where
+  pub counts : n ≤ length row
+  pub stamps : n ≤ length beside
 
 -- the lowest stamp of what is in transit on each of the first n channels stands in its place; the place of an empty channel, and those past n, are as they were
 pub record WroteLowest (r : Run) (cut : List ℕ) (n : ℕ) (stamps stamps′ : List ℤ) : Type 0 where

@@ -1,7 +1,7 @@
 // Rows of numbers written into the first lent places: a cut, and what is in transit on each channel there.
 use transit::Load;
-use transit::count_in;
-use transit::load_on;
+use transit::scan::count_in;
+use transit::scan::load_on;
 ghost use mathlib.Core.Path.{_≡_};
 ghost use Prim.Native.Nat.{_≤_, _<_};
 ghost use lib.ListN.{length};

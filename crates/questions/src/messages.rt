@@ -10,7 +10,7 @@ use record::reasons::refusal_of;
 use run::RunReading;
 use run::index::INDEX_SIZE;
 use transit::Load;
-use transit::load_on;
+use transit::scan::load_on;
 ghost use mathlib.Core.Path.{_≡_};
 ghost use Rattle.judged.specs.Told.{Told};
 ghost use Rattle.questions.specs.Inner.{asCount};

@@ -40,10 +40,10 @@ cast-counts : tie.Need-cast-counts Inv-loop μ-loop
 cast-counts c = record { fits = omega (arith, counted c, c .before .load-on .ensures .1) }
 
 slice-write-counts : tie.Need-slice-write-counts Inv-loop μ-loop
-slice-write-counts c = let l = c .before .before .before in omega (arith, entry l .pre .room .first, c .before .before .loop-test .taken, l .loop .inv .1 .long)
+slice-write-counts c = let l = c .before .before .before in omega (arith, entry l .pre .room .counts, c .before .before .loop-test .taken, l .loop .inv .1 .long)
 
 enter-requires : tie.Need-enter-requires Inv-loop μ-loop
-enter-requires c κs = let t = c .before .before .before in omega (arith, entry (t .before) .pre .room .second, t .loop-test .taken, t .before .loop .inv .2 .long)
+enter-requires c κs = let t = c .before .before .before in omega (arith, entry (t .before) .pre .room .stamps, t .loop-test .taken, t .before .loop .inv .2 .long)
 
 loop-again : tie.Need-loop-again Inv-loop μ-loop
 loop-again c =
@@ -53,8 +53,8 @@ loop-again c =
     let r = entry l .pre in
     let i = l .loop .inv in (
       omega (arith, t .loop-test .taken),
-      filled-more _ (i .1) (omega (arith, r .room .first, t .loop-test .taken)) (counted n),
-      rw (c .before .enter .ensures) (lowest-more _ _ (i .2) (n .before .load-on .ensures .0) (omega (arith, r .room .second, t .loop-test .taken))),
+      filled-more _ (i .1) (omega (arith, r .room .counts, t .loop-test .taken)) (counted n),
+      rw (c .before .enter .ensures) (lowest-more _ _ (i .2) (n .before .load-on .ensures .0) (omega (arith, r .room .stamps, t .loop-test .taken))),
     )
 
 same-length : tie.Need-same-length Inv-loop μ-loop

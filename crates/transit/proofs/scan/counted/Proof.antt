@@ -2,8 +2,8 @@ use borrow.Author.Needs.{needs}
 use native.Mathlib.Omega.{arith}
 use mathlib.Core.Path.{refl}
 use Rattle.transit.specs.Waiting.{inside}
-use Rattle.transit.proofs.counted.Statement.{statement}
-use Rattle.transit.proofs.counted.Tie as tie
+use Rattle.transit.proofs.scan.counted.Statement.{statement}
+use Rattle.transit.proofs.scan.counted.Tie as tie
 
 returns : tie.Need-returns
 unfolding inside

@@ -8,8 +8,8 @@ use Rattle.run.specs.Said.{runIn}
 use Rattle.run.proofs.Listed.{ok}
 use Rattle.transit.specs.Waiting.{spanOf}
 use Rattle.transit.proofs.Between.{Ends, ends-of}
-use Rattle.transit.proofs.span_of.Statement.{statement}
-use Rattle.transit.proofs.span_of.Tie as tie
+use Rattle.transit.proofs.sender.span_of.Statement.{statement}
+use Rattle.transit.proofs.sender.span_of.Tie as tie
 
 -- the entry, seen from behind the channel's ends
 abbrev entry : tie.After-channel-at → tie.Start

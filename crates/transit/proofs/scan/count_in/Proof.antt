@@ -2,8 +2,8 @@ use borrow.Author.Needs.{needs}
 use mathlib.Core.Path.{sym, ap}
 use lib.ListN.{length}
 use Rattle.transit.proofs.Loads.{load-empty, load-messages}
-use Rattle.transit.proofs.count_in.Statement.{statement}
-use Rattle.transit.proofs.count_in.Tie as tie
+use Rattle.transit.proofs.scan.count_in.Statement.{statement}
+use Rattle.transit.proofs.scan.count_in.Tie as tie
 
 returns : tie.Need-returns
 returns c = λ ms w. sym (ap length (load-empty w (c .enum-told .given .1)))

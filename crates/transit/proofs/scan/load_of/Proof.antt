@@ -2,8 +2,8 @@ use mathlib.Core.Path.{sym, subst}
 use mir.Facts.{toZ-ofZ}
 use Rattle.transit.specs.Load.{SoFar}
 use Rattle.transit.proofs.Loads.{load-none, load-some}
-use Rattle.transit.proofs.load_of.Statement.{statement}
-use Rattle.transit.proofs.load_of.Tie as tie
+use Rattle.transit.proofs.scan.load_of.Statement.{statement}
+use Rattle.transit.proofs.scan.load_of.Tie as tie
 
 returns : tie.Need-returns
 returns c = λ ms e w. load-none (c .if1 .taken) e

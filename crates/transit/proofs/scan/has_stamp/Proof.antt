@@ -2,8 +2,8 @@ use borrow.Author.Needs.{needs}
 use mathlib.Core.Path.{_∙_, refl}
 use mir.Facts.{toZ-ofZ}
 use Rattle.transit.specs.Load.{isSought}
-use Rattle.transit.proofs.has_stamp.Statement.{statement}
-use Rattle.transit.proofs.has_stamp.Tie as tie
+use Rattle.transit.proofs.scan.has_stamp.Statement.{statement}
+use Rattle.transit.proofs.scan.has_stamp.Tie as tie
 
 returns : tie.Need-returns
 unfolding isSought

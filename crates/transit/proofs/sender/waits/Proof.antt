@@ -6,8 +6,8 @@ use Rattle.model.specs.Cut.{onChannel}
 use Rattle.run.proofs.Listed.{listed-slot}
 use Rattle.transit.specs.Waiting.{asHeld}
 use Rattle.transit.proofs.Partner.{waits-still, waits-not}
-use Rattle.transit.proofs.waits.Statement.{statement}
-use Rattle.transit.proofs.waits.Tie as tie
+use Rattle.transit.proofs.sender.waits.Statement.{statement}
+use Rattle.transit.proofs.sender.waits.Tie as tie
 
 -- the entry, seen from behind the partner
 abbrev entry : tie.After-partner-of → tie.Start

@@ -3,8 +3,8 @@ use borrow.Author.Needs.{needs}
 use borrow.Author.Tests.{eq-eqb, ne-eqb}
 use mathlib.Core.Path.{refl}
 use Rattle.transit.specs.Waiting.{asHeld}
-use Rattle.transit.proofs.sent_on.Statement.{statement}
-use Rattle.transit.proofs.sent_on.Tie as tie
+use Rattle.transit.proofs.sender.sent_on.Statement.{statement}
+use Rattle.transit.proofs.sender.sent_on.Tie as tie
 
 start : tie.Need-returns
 unfolding asHeld

@@ -12,8 +12,8 @@ use Rattle.model.specs.Cut.{inTransit}
 use Rattle.run.specs.Said.{runIn}
 use Rattle.transit.specs.Load.{SoFar, isSought}
 use Rattle.transit.proofs.Between.{in-transit-few}
-use Rattle.transit.proofs.load_on.Statement.{statement}
-use Rattle.transit.proofs.load_on.Tie as tie
+use Rattle.transit.proofs.scan.load_on.Statement.{statement}
+use Rattle.transit.proofs.scan.load_on.Tie as tie
 
 unmet : (ms : List Message) → someOf (λ m. false) ms ≡ false
 unmet [] = refl

@@ -13,8 +13,8 @@ use Rattle.model.specs.Clause.{someOf, sameZ}
 use Rattle.model.specs.Cut.{add}
 use Rattle.transit.specs.Load.{isSought}
 use Rattle.transit.specs.Waiting.{inside}
-use Rattle.transit.proofs.meets.Statement.{statement}
-use Rattle.transit.proofs.meets.Tie as tie
+use Rattle.transit.proofs.scan.meets.Statement.{statement}
+use Rattle.transit.proofs.scan.meets.Tie as tie
 
 nothing : (o : Option Message) → false ≡ someOf (λ m. false) (add o [])
 nothing none = refl

@@ -18,8 +18,8 @@ use Rattle.transit.specs.Load.SoFar.{none}
 use Rattle.transit.specs.Waiting.{inside}
 use Rattle.transit.proofs.Partner.{inside-held}
 use Rattle.transit.proofs.Between.{Scanned, scanned-next, some-next, some-stays, span-channel, span-state, span-transit}
-use Rattle.transit.proofs.scan.Statement.{statement}
-use Rattle.transit.proofs.scan.Tie as tie
+use Rattle.transit.proofs.scan.scan.Statement.{statement}
+use Rattle.transit.proofs.scan.scan.Tie as tie
 
 abbrev Inv-loop : tie.InvT-loop
 Inv-loop run index cut channel sought span count₀ lowest₀ k₀ count lowest k =

@@ -7,8 +7,8 @@ use mir.Facts.{toZ-ofZ}
 use Rattle.transit.specs.Load.{SoFar}
 use Rattle.transit.specs.Waiting.{inside}
 use Rattle.transit.proofs.Loads.{so-far-next}
-use Rattle.transit.proofs.lowered.Statement.{statement}
-use Rattle.transit.proofs.lowered.Tie as tie
+use Rattle.transit.proofs.scan.lowered.Statement.{statement}
+use Rattle.transit.proofs.scan.lowered.Tie as tie
 
 returns : tie.Need-returns
 unfolding inside

@@ -2,8 +2,8 @@ use mathlib.Core.Path.{refl, sym, _∙_}
 use mir.Facts.{toZ-ofZ}
 use lib.Signed.{leZ}
 use Rattle.transit.proofs.Signs.{both}
-use Rattle.transit.proofs.lower.Statement.{statement}
-use Rattle.transit.proofs.lower.Tie as tie
+use Rattle.transit.proofs.scan.lower.Statement.{statement}
+use Rattle.transit.proofs.scan.lower.Tie as tie
 
 returns : tie.Need-returns
 returns c = let f = c .before .fits in toZ-ofZ (f .x) ∙ rw (sym (both leZ (f .x) (f .y)) ∙ c .if1 .taken) refl

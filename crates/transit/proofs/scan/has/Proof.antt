@@ -6,8 +6,8 @@ use mir.Val.{SFits}
 use Rattle.model.specs.Clause.{sameZ}
 use Rattle.transit.specs.Waiting.{inside}
 use Rattle.transit.proofs.Signs.{both}
-use Rattle.transit.proofs.has.Statement.{statement}
-use Rattle.transit.proofs.has.Tie as tie
+use Rattle.transit.proofs.scan.has.Statement.{statement}
+use Rattle.transit.proofs.scan.has.Tie as tie
 
 or-false : (t : Bool) → t ≡ (t || false)
 or-false true = refl
