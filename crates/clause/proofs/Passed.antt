@@ -1,9 +1,9 @@
 -- The channel tests by what is in transit: 1 to 3 by the number of messages, 6 and 7 by the lowest stamp, 4 and 5 by whether some message has the stamp.
-use mathlib.Core.Path.{_≡_, refl, sym, _∙_}
+use mathlib.Core.Path.{_≡_, refl, sym}
 use mathlib.Core.Bool.{Bool, true, false, not, _&&_, _||_}
 use mathlib.Core.List.{List, [], _∷_}
-use Prim.Native.Nat.{ℕ, zero, suc}
-use lib.Dec.{leb, eqb, leb·suc-zero, eqb·zero-suc, eqb·suc-zero}
+use Prim.Native.Nat.{ℕ}
+use lib.Dec.{leb, eqb}
 use lib.ListN.{length}
 use lib.Signed.{leZ}
 use lib.IntN.{ℤ}
@@ -22,15 +22,6 @@ every-some f (x ∷ xs) = go (f x) (every-some f xs)
     go : (t : Bool) → everyOf (λ x. not (f x)) xs ≡ not (someOf f xs) → (not t && everyOf (λ x. not (f x)) xs) ≡ not (t || someOf f xs)
     go true e = refl
     go false e = e
-
--- no message is at least so many, or so many, exactly if that is 0
-pub none-at-least : (n : ℕ) → eqb n 0 ≡ leb n 0
-none-at-least zero = refl
-none-at-least (suc n) = eqb·suc-zero n ∙ sym (leb·suc-zero n)
-
-pub none-exactly : (n : ℕ) → eqb n 0 ≡ eqb 0 n
-none-exactly zero = refl
-none-exactly (suc n) = eqb·suc-zero n ∙ sym (eqb·zero-suc n)
 
 module _ (x : ℕ) (ms : List Message) where
   -- ---- 1 to 3

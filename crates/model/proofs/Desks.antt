@@ -15,6 +15,8 @@ use Rattle.model.specs.declared.Event.the-variants.{Start, Internal, Sen
 use Rattle.model.specs.Run.{Run, State, history, state, into, IsState, paired, Paired}
 use Rattle.model.specs.Known.{Known}
 use Rattle.model.specs.Cut.{Before, AfterCircle, ClockIs, at, sends, waiting, between, inTransit}
+use Rattle.model.specs.Sent.{receives}
+use Rattle.model.specs.NotYetSent.{unsent, ahead}
 use Rattle.model.specs.Same.{SameUpTo}
 use Rattle.model.specs.Cut.Before.{message, through}
 use Rattle.model.specs.Clause.{Test, passes, Clause, holds, Satisfies, First}
@@ -315,6 +317,11 @@ busy = record {
 pub crossed : length (between busy 0 2 2) ≡ 1
 unfolding busy row note into state paired sends waiting between
 crossed = refl
+
+-- and the second is the one message that is received and not yet sent
+pub crossed-unsent : length (ahead busy 0 2 2) ≡ 1
+unfolding busy row note into state paired receives unsent ahead
+crossed-unsent = refl
 
 -- false at both, and true once either goes on by itself
 pub record NoMover (t : Test) (a b : ℕ) : Type 0 where

@@ -10,6 +10,8 @@ pub mod LowestStamp
 pub mod Lattice
 pub mod Past
 pub mod Messages
+pub mod OneMove
+pub mod Kept
 pub mod Conserved
 pub mod Search
 pub mod Decide

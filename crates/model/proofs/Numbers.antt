@@ -47,3 +47,13 @@ module _ (x y : ℕ) where
       go : (t : Bool) → eqb x 0 ≡ t → (t || ltb y x) ≡ false → (1 ≤ x) × (x ≤ y)
       go true d e = never (cc)
       go false d e = (positive (eqb-false x 0 d), ltb-false y x e)
+
+  -- so it tells whatever holds exactly if the first is one of 1 to the second
+  pub up-to-test : {t : Bool} → (T t → (1 ≤ x) × (x ≤ y)) → (1 ≤ x → x ≤ y → T t) → t ≡ not (eqb x 0 || ltb y x)
+  up-to-test {t} a b = go t a b (eqb x 0 || ltb y x) refl
+    where
+      go : (t : Bool) → (T t → (1 ≤ x) × (x ≤ y)) → (1 ≤ x → x ≤ y → T t) → (u : Bool) → (eqb x 0 || ltb y x) ≡ u → t ≡ not u
+      go true a b true e = let (p, q) = a tt in absurd (none-or-past e p q)
+      go true a b false e = refl
+      go false a b true e = refl
+      go false a b false e = let (p, q) = some-up-to e in absurd (b p q)

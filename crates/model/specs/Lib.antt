@@ -5,6 +5,7 @@ pub mod LowestStamp
 pub mod Known
 pub mod Clocks
 pub mod Sent
+pub mod NotYetSent
 pub mod Linear
 pub mod Same
 pub mod Last

@@ -30,7 +30,7 @@ fn satisfies_at(
     if !is_cut(index, cut, head.processes) {
         return Verdict::Refused(refusal_of(File::Run, CUT, 0));
     }
-    if satisfied(run, index, cond, clauses, cut) {
+    if satisfied(run, index, cond, clauses, cut, head.channels) {
         return Verdict::Yes;
     }
     Verdict::No

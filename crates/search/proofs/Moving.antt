@@ -29,7 +29,7 @@ use Rattle.cut.specs.declared.HasToMove.the-variants.{Nobody, Process}
 use Rattle.cut.specs.Clocks.{tooLow, InTable}
 use Rattle.cut.proofs.Low.{too-low-found, nobody-by-clock, cut-in-table}
 use Rattle.search.specs.declared.Outcome.the-variants as A
-use Rattle.search.specs.Search.{Given, EndNamed, Tested, isLocal, Tried, KindTested, Lowest, LowestCut, MustMove, Moved, Searched}
+use Rattle.search.specs.Search.{Given, EndNamed, Tested, isLocal, Tried, KindTested, Lowest, LowestCut, MustMove, Moved, every, Searched}
 use Rattle.search.specs.Search.Tried.{tested, passed}
 use Rattle.search.specs.Search.KindTested.{all, one}
 use Rattle.search.specs.Search.Moved.{nobody, process}
@@ -140,29 +140,41 @@ module _ {s c ix qs : List ℕ} (g : Given s c ix qs) where
     low = here .lowest
 
     -- a false clause
-    pub moved-clause : {locals : Bool} {b : HasToMove} {p : ℕ} → b ≡ Process p → KindTested r cs cut locals b → Moved r cs ix cut b
+    pub moved-clause : {locals : Bool} {asked : Clause → Bool} {b : HasToMove} {p : ℕ} → b ≡ Process p → KindTested r cs cut locals b → Moved r cs ix cut asked b
     moved-clause e (all w) = never (cc)
     moved-clause e (one x m p t) = let (a, w) = tested-moves r cs cut x linear low m (Process p) p refl t in process p a w
 
-    -- a clock
-    pub moved-low : {b : HasToMove} {p : ℕ} → b ≡ Process p → b ≡ tooLow (clockIn ix) cut → Moved r cs ix cut b
+    -- where the local clauses hold, the clocks
+    pub moved-clocks : {a b : HasToMove} → a ≡ Nobody → KindTested r cs cut true a → b ≡ tooLow (clockIn ix) cut → Moved r cs ix cut isLocal b
     unfolding Under Moves
-    moved-low {p = p} d e =
-        let (j, l) = too-low-found (clockIn ix) cut p (sym e ∙ d) in
-        subst (Moved r cs ix cut) (sym d) (process p (omega (arith, l .process, is .size))
-        (clock-moves r cs linear cut low (clockIn ix) (g .index .clocks) is p j (omega (arith, l .process, is .size)) (omega (arith, l .other, is .size)) (l .apart) (l .low)))
+    moved-clocks {b = Nobody} d (all w) e = nobody w (nobody-by-clock (clockIn ix) cut r (g .index .clocks) is (sym e))
+    moved-clocks {b = Process p} d (all w) e =
+        let (j, l) = too-low-found (clockIn ix) cut p (sym e) in
+        process p (omega (arith, l .process, is .size))
+        (clock-moves r cs linear cut low (clockIn ix) (g .index .clocks) is p j (omega (arith, l .process, is .size)) (omega (arith, l .other, is .size)) (l .apart) (l .low))
+    moved-clocks d (one x m p t) e = never (cc)
 
-    -- local clauses and clocks name nobody: the channel clauses decide
-    pub moved-last : {a b : HasToMove} → a ≡ Nobody → KindTested r cs cut true a → Nobody ≡ tooLow (clockIn ix) cut → KindTested r cs cut false b → Moved r cs ix cut b
-    moved-last d v e (all w) = nobody (both-kinds cut d v refl (all w)) (nobody-by-clock (clockIn ix) cut r (g .index .clocks) is (sym e))
-    moved-last d v e (one x m p t) = moved-clause {locals = false} refl (one x m p t)
+    -- and where those name nobody either, the channel clauses
+    pub moved-channels : {a b d : HasToMove} → a ≡ Nobody → Moved r cs ix cut isLocal a → KindTested r cs cut false b → d ≡ b → Moved r cs ix cut every d
+    moved-channels e (nobody v k) (all w) same = rw same (nobody (λ x m t. go x m (isLocal x) refl) k)
+      where
+        go : (x : Clause) → List·Memᴰ x cs → (t : Bool) → isLocal x ≡ t → T (holds r cut x)
+        go x m true h = v x m h
+        go x m false h = w x m h
+    moved-channels e (nobody v k) (one x m p t) same = rw same (moved-clause {locals = false} refl (one x m p t))
+    moved-channels e (process p h m) w same = never (cc)
+
+    -- somebody is named before the channel clauses are asked
+    pub moved-before : {a b : HasToMove} {p : ℕ} → a ≡ Process p → Moved r cs ix cut isLocal a → b ≡ Process p → Moved r cs ix cut every b
+    moved-before d (nobody v k) e = never (cc)
+    moved-before {p = p} d (process q h m) e = let same : q ≡ p = cc in rw e (subst (λ p. Moved r cs ix cut every (Process p)) same (process q h m))
 
     pub in-table : InTable cut
     in-table = cut-in-table (g .index) cut is
 
-    pub search-found : {b : HasToMove} → b ≡ Nobody → Moved r cs ix cut b → Searched r cs cut A.Found
+    pub search-found : {b : HasToMove} → b ≡ Nobody → Moved r cs ix cut every b → Searched r cs cut A.Found
     unfolding Under
-    search-found e (nobody w v) = found (arrive r cs cut low (all-tested r (clockIn ix) cs cut (g .index .clocks) is v w))
+    search-found e (nobody w v) = found (arrive r cs cut low (all-tested r (clockIn ix) cs cut (g .index .clocks) is v (λ k m. w k m refl)))
     search-found e (process p h m) = never (cc)
 
     -- who is named, and where the index and the cut have it
@@ -182,7 +194,7 @@ module _ {s c ix qs : List ℕ} (g : Given s c ix qs) where
         let inside : p < length cut = omega (arith, is .size) in
         record { there = h; must = m; row = omega arith; inside = inside; small = in-table .there p inside; counted = listed-count s ix (g .index .listed) p l }
 
-    pub moved-process : {b : HasToMove} {p : ℕ} → b ≡ Process p → Moved r cs ix cut b → Located p
+    pub moved-process : {b : HasToMove} {p : ℕ} → b ≡ Process p → Moved r cs ix cut every b → Located p
     moved-process e (nobody w v) = never (cc)
     moved-process {p = p} e (process q h m) = let same : q ≡ p = cc in subst Located same (named h m)
 

@@ -47,14 +47,6 @@ module _ (r : Run) (cut : List ℕ) (c n x : ℕ) {b : Bool} (says : b ≡ passe
   unfolding holds
   channel-false h e = channelFalse c (testOf n x) _ refl (not-T-of (sym says ∙ h)) e
 
--- what tests 4 and 5 name doesn't depend on the number of messages
-pub stamp-moves : (n x a b : ℕ) → 4 ≤ n → n ≤ 5 → mover (testOf n x) a ≡ mover (testOf n x) b
-unfolding testOf
-stamp-moves n x a b h g = ⊎-elim
-    (λ l. let e : n ≡ 4 = omega arith in rw e refl)
-    (λ l. let e : n ≡ 5 = omega arith in rw e refl)
-    (le-or-lt n 4)
-
 module _ {r : Run} {c : ℕ} {t : Test} {n : ℕ} {e : Channel} (ends : Ends r c e) where
   pub names-sender : mover t n ≡ Sender → EndNamed r c t n (Process (e .from))
   names-sender m = rw (ends .same) (sender (rw (ends .same) at (ends .from)) m)
@@ -64,10 +56,6 @@ module _ {r : Run} {c : ℕ} {t : Test} {n : ℕ} {e : Channel} (ends : Ends r c
 
 pub end-counted : {r : Run} {c : ℕ} {t : Test} {a b : ℕ} {named : HasToMove} → a ≡ b → EndNamed r c t a named → EndNamed r c t b named
 end-counted {r} {c} {t} {named = named} e w = subst (λ n. EndNamed r c t n named) e w
-
-pub end-named : {r : Run} {c : ℕ} {t : Test} {a b : ℕ} {named : HasToMove} → mover t a ≡ mover t b → EndNamed r c t a named → EndNamed r c t b named
-end-named e (sender h m) = sender h (sym e ∙ m)
-end-named e (receiver h m) = receiver h (sym e ∙ m)
 
 -- tests 1 to 7 say who has to move
 pub test-says : (n x count : ℕ) → 1 ≤ n → n ≤ 7 → mover (testOf n x) count ≡ NotLinear → ⊥

@@ -15,8 +15,8 @@ use Rattle.model.specs.Clause.Clause.{local, on}
 use Rattle.record.specs.Record.{headOf}
 use Rattle.run.specs.Index.{clockIn, IndexHolds}
 use Rattle.run.specs.Said.{runIn}
-use Rattle.condition.specs.declared.Test as Held
-use Rattle.condition.specs.Known.{TestKnown, ConditionKnown}
+use Rattle.condition.specs.Known.{ConditionKnown}
+use Rattle.kept.specs.Kept.{EachCounted}
 use Rattle.cut.specs.declared.HasToMove.{HasToMove}
 use Rattle.cut.specs.declared.HasToMove.the-variants.{Nobody, Process}
 use Rattle.search.specs.declared.Outcome.{Outcome}
@@ -27,11 +27,11 @@ pub record Given (s c ix qs : List ℕ) : Type 0 where
   pub index : IndexHolds s ix
   pub known : ConditionKnown c (headOf s) qs
 
--- a channel clause that is known beside its head, and a cut
-pub record ChannelAsked (s ix cut : List ℕ) (clause : Held.Test) : Type 0 where
+-- an accepted run with its index, one of its cuts, and a row that counts what is in transit there
+pub record Counted (s ix cut counts : List ℕ) : Type 0 where
   pub index : IndexHolds s ix
   pub isCut : IsCut (runIn s) cut
-  pub known : TestKnown (headOf s) clause
+  pub each : EachCounted (runIn s) (inTransit (runIn s) cut) counts
 
 -- the end of a channel that has to move where so many messages are on it
 pub data EndNamed (r : Run) (c : ℕ) (t : Test) (n : ℕ) : HasToMove → Type 0 where
@@ -72,10 +72,13 @@ pub record LowestCut (r : Run) (cond : List Clause) (cut : List ℕ) : Type 0 wh
 abbrev pub MustMove : Run → List Clause → List ℕ → ℕ → Type 0
 MustMove r cond cut p = (d : List ℕ) → Satisfies r cond d → at cut p < at d p
 
--- nobody has to move where the cut satisfies
-pub data Moved (r : Run) (cond : List Clause) (ix cut : List ℕ) : HasToMove → Type 0 where
-  nobody : ((k : Clause) → List·Memᴰ k cond → T (holds r cut k)) → ByClock r (clockIn ix) cut → Moved r cond ix cut Nobody
-  process : (p : ℕ) → p < processes r → MustMove r cond cut p → Moved r cond ix cut (Process p)
+-- of the clauses that are asked: nobody has to move where they hold and the clocks agree
+pub data Moved (r : Run) (cond : List Clause) (ix cut : List ℕ) (asked : Clause → Bool) : HasToMove → Type 0 where
+  nobody : ((k : Clause) → List·Memᴰ k cond → asked k ≡ true → T (holds r cut k)) → ByClock r (clockIn ix) cut → Moved r cond ix cut asked Nobody
+  process : (p : ℕ) → p < processes r → MustMove r cond cut p → Moved r cond ix cut asked (Process p)
+
+abbrev pub every : Clause → Bool
+every k = true
 
 -- found with the first cut, or none satisfies
 pub data Searched (r : Run) (cond : List Clause) (cut : List ℕ) : Outcome → Type 0 where

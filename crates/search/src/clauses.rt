@@ -12,7 +12,7 @@ ghost use Rattle.run.specs.Index.{IndexHolds};
 ghost use Rattle.condition.specs.Clauses.{clausesOf};
 ghost use Rattle.condition.specs.Known.{clauseAt};
 ghost use Rattle.condition.specs.Known.{ClauseKnown};
-ghost use Rattle.search.specs.Search.{Given, Tried, KindTested};
+ghost use Rattle.search.specs.Search.{Given, Counted, Tried, KindTested};
 
 // The clause whose record stands at a place, if it is a local one.
 fn local_clause(run: &[u8], index: &[u16], cond: &[u8], at: usize, cut: &[u16]) -> HasToMove
@@ -26,15 +26,27 @@ fn local_clause(run: &[u8], index: &[u16], cond: &[u8], at: usize, cut: &[u16]) 
     }
 }
 
-// The same, if it is a channel clause.
-fn channel_clause(run: &[u8], index: &[u16], cond: &[u8], at: usize, cut: &[u16]) -> HasToMove
-    requires { ⌜ IndexHolds (now run) (now index) × IsCut (runIn (now run)) (now cut) × ClauseKnown (now cond) (headOf (now run)) at ⌝ }
+// The same, if it is a channel clause, where the row counts what is in transit.
+fn channel_clause(
+    run: &[u8],
+    index: &[u16],
+    cond: &[u8],
+    at: usize,
+    cut: &[u16],
+    counts: &[u16],
+) -> HasToMove
+    requires { ⌜
+        Counted (now run) (now index) (now cut) (now counts) × ClauseKnown (now cond) (headOf (now run)) at
+        ⌝ }
     ensures { λ r. ⌜ Tried (runIn (now (run .entry))) (now (cut .entry)) (clauseAt (now (cond .entry)) at) false r ⌝ }
 {
     let clause = clause_at(cond, at);
     match clause {
         Clause::Local(_) => HasToMove::Nobody,
-        Clause::Channel(test) => channel_mover(run, index, cut, test),
+        Clause::Channel(test) => {
+            let channel = test.channel as usize;
+            channel_mover(run, index, cut, test, counts[channel] as usize)
+        }
     }
 }
 
@@ -67,13 +79,14 @@ pub(crate) fn first_channel(
     cond: &[u8],
     clauses: &[u16],
     cut: &[u16],
+    counts: &[u16],
 ) -> HasToMove
-    requires { ⌜ Given (now run) (now cond) (now index) (now clauses) × IsCut (runIn (now run)) (now cut) ⌝ }
+    requires { ⌜ Given (now run) (now cond) (now index) (now clauses) × Counted (now run) (now index) (now cut) (now counts) ⌝ }
     ensures { λ r. ⌜ KindTested (runIn (now (run .entry))) (clausesOf (now (cond .entry)) (now (clauses .entry))) (now (cut .entry)) false r ⌝ }
 {
     let mut i: usize = 0;
     while i < clauses.len() {
-        let named = channel_clause(run, index, cond, clauses[i] as usize, cut);
+        let named = channel_clause(run, index, cond, clauses[i] as usize, cut, counts);
         let HasToMove::Nobody = named else {
             return named;
         };

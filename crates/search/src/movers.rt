@@ -1,6 +1,5 @@
 // Whom one clause names at a cut: nobody where it holds, else who has to move.
-use clause::channel_tests::load_passes;
-use clause::channel_tests::stamp_passes;
+use clause::channel_tests::channel_passes;
 use clause::local::local_holds;
 use condition::Clause;
 use condition::Local;
@@ -9,10 +8,7 @@ use condition::movers::who_moves;
 use cut::HasToMove;
 use model::Mover;
 use states::held::channel_at;
-use transit::scan::count_in;
-use transit::scan::load_on;
 ghost use mathlib.Core.Path.{_≡_};
-ghost use Prim.Native.Nat.{_≤_};
 ghost use Rattle.model.specs.Cut.{IsCut};
 ghost use Rattle.record.specs.Record.{headOf};
 ghost use Rattle.run.specs.Read.{readOf};
@@ -21,8 +17,8 @@ ghost use Rattle.run.specs.Said.{statesOf, runIn};
 ghost use Rattle.run.specs.Index.{IndexHolds};
 ghost use Rattle.condition.specs.Clauses.{testOf, clauseOf};
 ghost use Rattle.condition.specs.Known.{LocalKnown, TestKnown};
-ghost use Rattle.clause.specs.ChannelTests.{ByLoad};
-ghost use Rattle.search.specs.Search.{Tested, EndNamed, ChannelAsked};
+ghost use Rattle.clause.specs.ChannelTests.{CountKnown};
+ghost use Rattle.search.specs.Search.{Tested, EndNamed};
 
 // A local clause names its process.
 pub(crate) fn local_mover(run: &[u8], index: &[u16], cut: &[u16], clause: Local) -> HasToMove
@@ -61,38 +57,19 @@ fn end_named(run: &[u8], clause: Test, count: usize) -> HasToMove
     }
 }
 
-// Tests 1 to 3, 6 and 7.
-fn load_mover(run: &[u8], index: &[u16], cut: &[u16], clause: Test) -> HasToMove
-    requires { ⌜ ChannelAsked (now run) (now index) (now cut) clause × ByLoad (clause .test) ⌝ }
-    ensures { λ r. ⌜ Tested (runIn (now (run .entry))) (now (cut .entry)) (clauseOf (Clause.Channel clause)) r ⌝ }
-{
-    let load = load_on(run, index, cut, clause.channel);
-    if load_passes(clause.test, clause.operand, load) {
-        return HasToMove::Nobody;
-    }
-    end_named(run, clause, count_in(load))
-}
-
-// Tests 4 and 5. How many messages there are doesn't matter to whom they name.
-fn stamp_mover(run: &[u8], index: &[u16], cut: &[u16], clause: Test) -> HasToMove
-    requires { ⌜ ChannelAsked (now run) (now index) (now cut) clause × (4 ≤ clause .test) × (clause .test ≤ 5) ⌝ }
-    ensures { λ r. ⌜ Tested (runIn (now (run .entry))) (now (cut .entry)) (clauseOf (Clause.Channel clause)) r ⌝ }
-{
-    if stamp_passes(run, index, cut, clause.channel, clause.test, clause.operand) {
-        return HasToMove::Nobody;
-    }
-    end_named(run, clause, 0)
-}
-
 // A channel clause names its sender or its receiver.
-pub(crate) fn channel_mover(run: &[u8], index: &[u16], cut: &[u16], clause: Test) -> HasToMove
-    requires { ⌜ ChannelAsked (now run) (now index) (now cut) clause ⌝ }
+pub(crate) fn channel_mover(
+    run: &[u8],
+    index: &[u16],
+    cut: &[u16],
+    clause: Test,
+    count: usize,
+) -> HasToMove
+    requires { ⌜ TestKnown (headOf (now run)) clause × CountKnown (now run) (now index) (now cut) clause count ⌝ }
     ensures { λ r. ⌜ Tested (runIn (now (run .entry))) (now (cut .entry)) (clauseOf (Clause.Channel clause)) r ⌝ }
 {
-    let test = clause.test;
-    match test {
-        4 => stamp_mover(run, index, cut, clause),
-        5 => stamp_mover(run, index, cut, clause),
-        _ => load_mover(run, index, cut, clause),
+    if channel_passes(run, index, cut, clause, count) {
+        return HasToMove::Nobody;
     }
+    end_named(run, clause, count)
 }

@@ -89,7 +89,8 @@ ends-of s read {c} h z =
     let within = sides s read .ends c n in
     record { same = same; from = rw same (within .0); to = rw same (within .1) }
 
-upTo-few : (f : ℕ → Option Message) (a : ℕ) → length (upTo f a) ≤ a
+-- no more messages than states
+pub upTo-few : (f : ℕ → Option Message) (a : ℕ) → length (upTo f a) ≤ a
 upTo-few f zero = zero-le
 upTo-few f (suc a) = go (f (suc a)) (upTo-few f a)
   where

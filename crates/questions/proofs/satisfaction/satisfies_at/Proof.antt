@@ -1,6 +1,6 @@
 -- `satisfies_at` meets its contract: at each way out, what the tests of the cut and of the clauses gave.
 use borrow.Author.Needs.{needs}
-use mathlib.Core.Path.{sym, subst}
+use mathlib.Core.Path.{sym, ap, subst}
 use Rattle.model.specs.Cut.{IsCut}
 use Rattle.model.specs.Clause.{Satisfies}
 use Rattle.model.proofs.Numbers.{never}
@@ -28,7 +28,7 @@ returns c =
     rw (c .refusal-of .ensures) (AskedSatisfies.notCut (r .0 .accepted) (r .1 .condition) (told-no-cut (r .0) (t .is-cut .ensures) (c .before .if1 .taken)))
 
 satisfied-requires : tie.Need-satisfied-requires
-satisfied-requires c κs = (given (entry (c .before) .pre .1), chosen c)
+satisfied-requires c κs = let r = entry (c .before) .pre in (given (r .1), chosen c, ap (λ h. h .channels) (r .0 .head))
 
 returns-2 : tie.Need-returns-2
 returns-2 c =

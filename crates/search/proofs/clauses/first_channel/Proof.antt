@@ -9,14 +9,14 @@ use Rattle.search.proofs.clauses.first_channel.Statement.{statement}
 use Rattle.search.proofs.clauses.first_channel.Tie as tie
 
 abbrev Inv-loop : tie.InvT-loop
-Inv-loop run index cond clauses cut i₀ i = (i ≤ length clauses) × KindHolds run cond clauses cut false i
+Inv-loop run index cond clauses cut counts i₀ i = (i ≤ length clauses) × KindHolds run cond clauses cut false i
 
 abbrev μ-loop : tie.MeasureT-loop
-μ-loop run index cond clauses cut i₀ i = length clauses - i
+μ-loop run index cond clauses cut counts i₀ i = length clauses - i
 
 -- the entry seen from the loop, and the loop seen from behind the clause
 abbrev entry : tie.At-loop Inv-loop μ-loop → tie.Start Inv-loop μ-loop
-entry l = l .before .before .before .before .before .before
+entry l = l .before .before .before .before .before .before .before
 
 abbrev turn : tie.After-channel-clause Inv-loop μ-loop → tie.In-loop Inv-loop μ-loop
 turn m = m .before .before
@@ -28,13 +28,13 @@ mul-channel-clause : tie.Need-mul-channel-clause Inv-loop μ-loop
 mul-channel-clause c = omega (arith, entry (c .before) .pre .0 .known .few, c .loop-test .taken)
 
 cast-channel-clause : tie.Need-cast-channel-clause Inv-loop μ-loop
-cast-channel-clause c = omega (arith, c .shared-slice-known6 .given (c .before .before .loop .i))
+cast-channel-clause c = omega (arith, c .shared-slice-known7 .given (c .before .before .loop .i))
 
 channel-clause-requires : tie.Need-channel-clause-requires Inv-loop μ-loop
 channel-clause-requires c κs =
     let l = c .before .before in
     let r = entry l .pre in
-    (r .0 .index, r .1, r .0 .known .clauses (l .loop .i) (c .before .loop-test .taken))
+    (r .1, r .0 .known .clauses (l .loop .i) (c .before .loop-test .taken))
 
 returns : tie.Need-returns Inv-loop μ-loop
 returns c =

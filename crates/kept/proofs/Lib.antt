@@ -1,0 +1,4 @@
+pub mod Counted
+pub mod Partners
+pub mod Brought
+pub mod Start
