@@ -126,6 +126,7 @@ struct state {
 struct channel {
     unsigned from;
     unsigned to;
+    uint32_t count;           /* of messages in transit at the cut */
     struct state *first_send; /* of those that still matter to the search */
     struct state *last_send;
 };
@@ -612,24 +613,17 @@ static int mover_by_local_clause(const struct clause *clause)
     return holds ? NOBODY : (int)clause->subject;
 }
 
-/* Only sends put messages in and only receives take them out: that names who has to move. */
-static int mover_by_channel_clause(const struct clause *clause)
+/* The stamps are looked at only where there are any. */
+static int mover_by_stamps(struct channel *channel, const struct clause *clause)
 {
-    struct channel *channel = &channels[clause->subject];
     int sender = (int)channel->from;
     int receiver = (int)channel->to;
     int32_t stamp = (int32_t)clause->operand;
-    struct transit transit = in_transit(channel, stamp);
+    struct transit transit = {.lowest = INT32_MAX};
+    if (channel->count > 0)
+        transit = in_transit(channel, stamp);
 
     switch (clause->test) {
-    case COUNT_AT_MOST:
-        return transit.count <= clause->operand ? NOBODY : receiver;
-    case COUNT_AT_LEAST:
-        return transit.count >= clause->operand ? NOBODY : sender;
-    case COUNT_EXACTLY:
-        if (transit.count == clause->operand)
-            return NOBODY;
-        return transit.count < clause->operand ? sender : receiver;
     case SOME_STAMP_EQUALS:
         return transit.equal > 0 ? NOBODY : sender;
     case NO_STAMP_EQUALS:
@@ -638,6 +632,27 @@ static int mover_by_channel_clause(const struct clause *clause)
         return transit.lowest >= stamp ? NOBODY : receiver;
     default:
         return transit.count > 0 && transit.lowest <= stamp ? NOBODY : sender;
+    }
+}
+
+/* Only sends put messages in and only receives take them out: that names who has to move. */
+static int mover_by_channel_clause(const struct clause *clause)
+{
+    struct channel *channel = &channels[clause->subject];
+    int sender = (int)channel->from;
+    int receiver = (int)channel->to;
+
+    switch (clause->test) {
+    case COUNT_AT_MOST:
+        return channel->count <= clause->operand ? NOBODY : receiver;
+    case COUNT_AT_LEAST:
+        return channel->count >= clause->operand ? NOBODY : sender;
+    case COUNT_EXACTLY:
+        if (channel->count == clause->operand)
+            return NOBODY;
+        return channel->count < clause->operand ? sender : receiver;
+    default:
+        return mover_by_stamps(channel, clause);
     }
 }
 
@@ -665,6 +680,22 @@ static int mover_by_clauses(void)
     return NOBODY;
 }
 
+/* A message that the cut has both ends of isn't in transit, whichever end it came to first. */
+static bool has_other_end(const struct state *end)
+{
+    return end->partner != NULL && end->partner->number <= cut[end->partner->process];
+}
+
+static void move_on(int mover)
+{
+    const struct state *entered = &states[mover][++cut[mover]];
+    struct channel *channel = &channels[entered->channel];
+    if (entered->event == SEND && !has_other_end(entered))
+        channel->count++;
+    else if (entered->event == RECEIVE && has_other_end(entered))
+        channel->count--;
+}
+
 /* After a move everything is tested again: a clause that held may hold no longer. */
 static bool find_first_cut(void)
 {
@@ -678,7 +709,7 @@ static bool find_first_cut(void)
             return true;
         if (cut[mover] == state_count[mover])
             return false;
-        cut[mover]++;
+        move_on(mover);
     }
 }
 
@@ -756,6 +787,14 @@ static void answer_consistent(void)
         puts(mover_by_clocks() == NOBODY ? "yes" : "no");
 }
 
+/* For the clauses at a cut that was asked about: no search has brought the counts there. */
+static bool asked_cut_satisfies(void)
+{
+    for (unsigned number = 0; number < channel_count; number++)
+        channels[number].count = in_transit(&channels[number], 0).count;
+    return mover_by_clauses() == NOBODY && mover_by_clocks() == NOBODY;
+}
+
 static void answer_satisfies(void)
 {
     struct refusal refusal = judge_run_and_condition();
@@ -764,7 +803,7 @@ static void answer_satisfies(void)
     if (refusal.reason != ACCEPTED)
         print_refusal(refusal);
     else
-        puts(mover_by_clauses() == NOBODY && mover_by_clocks() == NOBODY ? "yes" : "no");
+        puts(asked_cut_satisfies() ? "yes" : "no");
 }
 
 static void print_count(struct transit transit)

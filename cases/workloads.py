@@ -11,7 +11,11 @@ NAME.case, in the form that cases.py describes.
   ordinary-half     the same with half as many states
   ordinary-quarter  the same with a quarter
   longest           the search moves as often as it can, with the most clauses
-  counted           the same, and a channel clause names each move
+  counted           as long, with clauses that count the messages on a channel alone
+  counted-half      the same with half as many states
+  stamped           as long, with clauses that ask for stamps alone
+  stamped-half      the same with half as many states
+  mixed             nearly as long, with clauses of both kinds
   none              the ordinary run; seven of its clauses and one that never holds
   hostile           numbers and receives in the order that costs the pairing most
   desks             the run of two desks with marked case 4
@@ -45,6 +49,7 @@ from model import (  # noqa: E402
     NO_STAMP_EQUALS,
     RECEIVE,
     SEND,
+    SOME_STAMP_AT_MOST,
     SOME_STAMP_EQUALS,
     START,
     Channel,
@@ -71,6 +76,10 @@ NEAR_THE_END = 95
 # states run out first, of more processes the bytes.
 LONGEST_PROCESSES = 4
 LONGEST_STATES = 1_559
+
+# Sent by each process in a row at the end. At a consistent cut no sender is so many
+# rounds ahead of its receiver, so only then are so many messages on its channel.
+LAST_SENDS = 8
 
 # As many processes as may have all their states: the more states a process has,
 # the longer its messages are sought.
@@ -99,7 +108,11 @@ def workloads() -> Iterator[Workload]:
         aim = ordinary(ORDINARY_STATES // share)
         yield Workload(name, as_bytes(aim.run), as_condition(ordinary_clauses(aim)))
     yield longest()
-    yield counted()
+    yield counted("counted", LONGEST_STATES)
+    yield counted("counted-half", LONGEST_STATES // 2)
+    yield stamped("stamped", LONGEST_STATES)
+    yield stamped("stamped-half", LONGEST_STATES // 2)
+    yield mixed()
     never = channel_clause(0, SOME_STAMP_EQUALS, -1)
     yield Workload("none", run, as_condition([*clauses[:-1], never]))
     yield hostile()
@@ -205,6 +218,14 @@ class Layout:
         while len(self.draft.executed) < state_count:
             self.step(len(self.draft.executed) % self.draft.process_count, INTERNAL)
 
+    def take_rounds(self, state_count: int) -> None:
+        """Rounds of a send, a receive and an internal event, up to this many states in all."""
+        left = state_count - len(self.draft.executed)
+        for message in range(left // (3 * self.draft.process_count)):
+            self.all_send(message)
+            self.all_receive(message)
+            self.fill(len(self.draft.executed) + self.draft.process_count)
+
     def run(self) -> Run:
         return run_of(self.draft, self.draft.executed)
 
@@ -215,16 +236,12 @@ class Layout:
             for process, history in enumerate(self.draft.histories)
         ]
 
-
-def longest_layout() -> Layout:
-    """Rounds of a send, a receive and an internal event, up to the most states."""
-    layout = Layout(LONGEST_PROCESSES)
-    rounds = (LONGEST_STATES // LONGEST_PROCESSES - 1) // 3
-    for message in range(rounds):
-        layout.all_send(message)
-        layout.all_receive(message)
-        layout.fill(len(layout.draft.executed) + LONGEST_PROCESSES)
-    return layout
+    def last_stamps(self) -> list[Clause]:
+        """A clause for each channel that is false until its sender's last state, a send."""
+        return [
+            channel_clause(channel, SOME_STAMP_EQUALS, len(self.draft.histories[sender]))
+            for channel, (sender, _) in enumerate(self.draft.channels)
+        ]
 
 
 def on_each_channel(tests: tuple[tuple[int, int], ...]) -> list[Clause]:
@@ -237,7 +254,8 @@ def on_each_channel(tests: tuple[tuple[int, int], ...]) -> list[Clause]:
 
 def longest() -> Workload:
     """A move tests all clauses: the local ones, false up to the end, stand last."""
-    layout = longest_layout()
+    layout = Layout(LONGEST_PROCESSES)
+    layout.take_rounds(LONGEST_STATES)
     layout.fill(LONGEST_STATES)
     clauses = on_each_channel((
         (COUNT_AT_MOST, 0), (COUNT_AT_LEAST, 0), (COUNT_EXACTLY, 0),
@@ -248,9 +266,49 @@ def longest() -> Workload:
     return Workload("longest", as_bytes(layout.run()), condition)
 
 
-def counted() -> Workload:
+def ending_in_sends(state_count: int) -> Layout:
+    """Rounds, internal events for the states that are left over, and the last sends."""
+    layout = Layout(LONGEST_PROCESSES)
+    before_the_last = state_count - LAST_SENDS * LONGEST_PROCESSES
+    layout.take_rounds(before_the_last)
+    layout.fill(before_the_last)
+    for message in range(MOST_STATES, MOST_STATES + LAST_SENDS):
+        layout.all_send(message)
+    return layout
+
+
+def counted(name: str, state_count: int) -> Workload:
     """All clauses count: those that always hold, then one for each sender's last send."""
-    layout = longest_layout()
+    layout = ending_in_sends(state_count)
+    always = on_each_channel((
+        (COUNT_AT_LEAST, 0), (COUNT_AT_MOST, MOST_STATES - 3), (COUNT_AT_MOST, MOST_STATES - 2),
+        (COUNT_AT_LEAST, 0), (COUNT_AT_MOST, MOST_STATES - 1), (COUNT_AT_MOST, MOST_STATES),
+        (COUNT_AT_LEAST, 0),
+    ))
+    condition = as_condition(always + on_each_channel(((COUNT_EXACTLY, LAST_SENDS),)))
+    return Workload(name, as_bytes(layout.run()), condition)
+
+
+def stamped(name: str, state_count: int) -> Workload:
+    """All clauses ask for stamps, and name every move.
+
+    After those that always hold comes one for each channel that is false where it is
+    empty, so that all processes go on side by side, then one for each sender's last send.
+    """
+    layout = ending_in_sends(state_count)
+    always = on_each_channel((
+        (NO_STAMP_EQUALS, 0), (NO_STAMP_EQUALS, 1), (NO_STAMP_EQUALS, MOST_STATES),
+        (EVERY_STAMP_AT_LEAST, 0), (EVERY_STAMP_AT_LEAST, 1), (EVERY_STAMP_AT_LEAST, 2),
+    ))
+    not_empty = on_each_channel(((SOME_STAMP_AT_MOST, MOST_STATES),))
+    condition = as_condition(always + not_empty + layout.last_stamps())
+    return Workload(name, as_bytes(layout.run()), condition)
+
+
+def mixed() -> Workload:
+    """Counts and stamps, mostly of empty channels."""
+    layout = Layout(LONGEST_PROCESSES)
+    layout.take_rounds(LONGEST_STATES)
     last = len(layout.draft.histories[0]) + 1
     layout.all_send(last)
     clauses = on_each_channel((
@@ -258,8 +316,8 @@ def counted() -> Workload:
         (NO_STAMP_EQUALS, 0), (NO_STAMP_EQUALS, MOST_STATES),
         (EVERY_STAMP_AT_LEAST, 0), (EVERY_STAMP_AT_LEAST, 1),
     ))
-    condition = as_condition(clauses + on_each_channel(((SOME_STAMP_EQUALS, last),)))
-    return Workload("counted", as_bytes(layout.run()), condition)
+    condition = as_condition(clauses + layout.last_stamps())
+    return Workload("mixed", as_bytes(layout.run()), condition)
 
 
 def hostile() -> Workload:

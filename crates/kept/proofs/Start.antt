@@ -1,17 +1,17 @@
 -- At the start, state 1 everywhere, both numbers are 0 on every channel: no first state sends or receives.
-use mathlib.Core.Path.{_≡_, refl, sym, _∙_}
+use mathlib.Core.Path.{_≡_, sym, _∙_}
 use mathlib.Core.Logic.{⊎-elim}
 use mathlib.Core.List.{List}
-use Prim.Native.Nat.{ℕ, suc, _≤_, _<_}
+use Prim.Native.Nat.{ℕ, suc, _≤_}
 use native.Mathlib.Omega.{arith}
-use lib.ListN.{length, getD, replicate, length-replicate, getD-replicate, List·getD-eq-default}
+use lib.ListN.{length, replicate, length-replicate, getD-replicate, List·getD-eq-default}
 use Rattle.model.proofs.Lists.{le-or-lt}
 use Rattle.model.specs.Run.{Run, processes, channel}
 use Rattle.model.specs.Known.{Known}
 use Rattle.model.specs.Cut.{at, inTransit}
 use Rattle.model.specs.NotYetSent.{notYetSent}
 use Rattle.model.proofs.OneMove.{kept-start}
-use Rattle.kept.specs.Kept.{EachCounted, CountsKept}
+use Rattle.kept.specs.Kept.{CountsKept}
 
 at-one : (n i : ℕ) → at (replicate n 1) i ≤ 1
 at-one n i = ⊎-elim

@@ -14,7 +14,6 @@ use lib.ListN.{length}
 use lib.Seq.{getD-set-same, getD-set-other}
 use Rattle.model.proofs.Numbers.{never}
 use Rattle.model.specs.declared.Message.{Message}
-use Rattle.model.specs.declared.Event.{Event}
 use Rattle.model.specs.declared.Event.the-variants.{Send, Receive}
 use Rattle.model.specs.Run.{Run, processes, into, channel, paired, Paired}
 use Rattle.model.specs.Known.{Known}
@@ -23,7 +22,7 @@ use Rattle.model.specs.Sent.{ByMessage, receives}
 use Rattle.model.specs.NotYetSent.{unsent, ahead, notYetSent, moveOn, OneMove}
 use Rattle.model.proofs.Lists.{some-at}
 use Rattle.model.proofs.Pairing.{view, received-there, from-end}
-use Rattle.model.proofs.Messages.{arrived, sends-send, send-sends, receives-receive, receive-receives}
+use Rattle.model.proofs.Messages.{arrived, sends-send, receives-receive, receive-receives}
 use Rattle.model.proofs.Order.{consistent-by-message}
 use Rattle.model.proofs.OneMove.{given, sender-move, receiver-move, given-iff}
 

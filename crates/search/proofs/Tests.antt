@@ -1,6 +1,5 @@
 -- A clause at a cut: true, or who has to move.
 use mathlib.Core.Path.{_≡_, refl, sym, _∙_, subst}
-use mathlib.Core.Logic.{⊎-elim}
 use mathlib.Core.Bool.{Bool, true, false, cond}
 use mathlib.Core.List.{List, List·Memᴰ}
 use Prim.Native.Nat.{ℕ, zero, suc, _≤_, _<_}
@@ -8,7 +7,6 @@ use native.Mathlib.Omega.{arith}
 use lib.Dec.{T, ltb}
 use lib.IntN.{ℤ, pos}
 use lib.ListN.{length, getD}
-use Rattle.model.proofs.Lists.{le-or-lt}
 use Rattle.model.proofs.Numbers.{never, T-of, not-T-of}
 use Rattle.model.specs.declared.Channel.{Channel}
 use Rattle.model.specs.declared.Mover.the-variants.{Sender, Receiver, NotLinear}

@@ -35,9 +35,7 @@ fn channel_clause(
     cut: &[u16],
     counts: &[u16],
 ) -> HasToMove
-    requires { ⌜
-        Counted (now run) (now index) (now cut) (now counts) × ClauseKnown (now cond) (headOf (now run)) at
-        ⌝ }
+    requires { ⌜ Counted (now run) (now index) (now cut) (now counts) × ClauseKnown (now cond) (headOf (now run)) at ⌝ }
     ensures { λ r. ⌜ Tried (runIn (now (run .entry))) (now (cut .entry)) (clauseAt (now (cond .entry)) at) false r ⌝ }
 {
     let clause = clause_at(cond, at);

@@ -17,7 +17,9 @@ ghost use Rattle.search.specs.Search.{Given, LowestCut, Moved, isLocal, 
 // Whom a local clause names, else the clocks. Channel clauses are asked last: a stamp is looked for anew each time.
 fn first_behind(run: &[u8], index: &[u16], cond: &[u8], clauses: &[u16], cut: &[u16]) -> HasToMove
     requires { ⌜ Given (now run) (now cond) (now index) (now clauses) × LowestCut (runIn (now run)) (clausesOf (now cond) (now clauses)) (now cut) ⌝ }
-    ensures { λ r. ⌜ Moved (runIn (now (run .entry))) (clausesOf (now (cond .entry)) (now (clauses .entry))) (now (index .entry)) (now (cut .entry)) isLocal r ⌝ }
+    ensures { λ r. ⌜
+        Moved (runIn (now (run .entry))) (clausesOf (now (cond .entry)) (now (clauses .entry))) (now (index .entry)) (now (cut .entry)) isLocal r
+        ⌝ }
 {
     let local = first_local(run, index, cond, clauses, cut);
     let HasToMove::Nobody = local else {

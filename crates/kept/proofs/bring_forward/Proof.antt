@@ -29,8 +29,12 @@ received c = c .before .before
 cast-process : tie.Need-cast-process
 cast-process c = let w = c .before .before .before .before .before .pre .0 in record { fits = omega (arith, w .process, processes-few (w .index)) }
 
+-- and the entry, seen from where the state of the process is read
+abbrev first : tie.After-shared-slice-known4 → tie.Start
+first c = c .before .before .before .before .before .before
+
 add-k : tie.Need-add-k
-add-k c = let w = c .before .before .before .before .before .before .pre .0 in record { fits = omega (arith, states-few (w .index) (next-state w)) }
+add-k c = let w = first c .pre .0 in record { fits = omega (arith, states-few (w .index) (next-state w)) }
 
 -- ---- no message
 

@@ -1,5 +1,4 @@
 use borrow.Author.Needs.{needs}
-use native.Mathlib.Omega.{arith}
 use mathlib.Core.Path.{refl}
 use Rattle.kept.proofs.count_message.Statement.{statement}
 use Rattle.kept.proofs.count_message.Tie as tie

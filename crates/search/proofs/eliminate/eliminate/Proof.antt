@@ -2,7 +2,7 @@
 -- cut, in rows of the lengths they had. The measure is 4,096 less what the cut's numbers add up to.
 use borrow.Author.Needs.{needs}
 use native.Mathlib.Omega.{arith}
-use mathlib.Core.Path.{_≡_, refl, sym, subst, _∙_}
+use mathlib.Core.Path.{_≡_, refl, sym, _∙_}
 use mathlib.Core.Logic.{⊎-elim}
 use denote.Ref.{now}
 use Prim.Native.Nat.{_-_, _<_}
@@ -34,6 +34,13 @@ turn m = m .before .before .before
 abbrev met : tie.After-named Inv-loop μ-loop → tie.At-match-came Inv-loop μ-loop
 met c = c .before .before
 
+-- the entry seen from just ahead of the loop, and the loop seen from where the channel clauses are asked
+abbrev begun : tie.After-slice-known3 Inv-loop μ-loop → tie.Start Inv-loop μ-loop
+begun c = c .before .before .before .before .before .before .before
+
+abbrev asking : tie.After-first-channel-arg2 Inv-loop μ-loop → tie.At-loop Inv-loop μ-loop
+asking c = c .before .before .before .before .before .before
+
 -- whoever is named has to move, whichever test named it
 told : (m : tie.At-match-came Inv-loop μ-loop) → let l = turn m in let a = entry l .args in
     Moved (runIn (a .run .now)) (clausesOf (a .cond .now) (a .clauses .now)) (a .index .now) (l .loop .cut) every (m .match .named)
@@ -51,14 +58,14 @@ mover : (c : tie.After-named Inv-loop μ-loop) → let l = turn (met c) in Locat
 mover c = let l = turn (met c) in moved-process (entry l .pre .0) (l .loop .cut) (l .loop .inv .0) (c .named .given .1) (told (met c))
 
 loop-holds : tie.Need-loop-holds Inv-loop μ-loop
-loop-holds c = let r = c .before .before .before .before .before .before .before .pre in (r .1, r .2, refl, refl)
+loop-holds c = let r = begun c .pre in (r .1, r .2, refl, refl)
 
 first-behind-requires : tie.Need-first-behind-requires Inv-loop μ-loop
 first-behind-requires c κs = let l = c .before in (entry l .pre .0, l .loop .inv .0)
 
 first-channel-requires : tie.Need-first-channel-requires Inv-loop μ-loop
 first-channel-requires c κs =
-    let l = c .before .before .before .before .before .before in
+    let l = asking c in
     let g = entry l .pre .0 in
     (g, record { index = g .index; isCut = l .loop .inv .0 .isCut; each = l .loop .inv .1 .first })
 

@@ -1,7 +1,7 @@
 -- `search` meets its contract: state 1 everywhere is at or below every satisfying cut, and nothing is sent or received there.
 use borrow.Author.Needs.{needs}
 use native.Mathlib.Omega.{arith}
-use mathlib.Core.Path.{_≡_, sym, subst}
+use mathlib.Core.Path.{sym, subst}
 use lib.ListN.{replicate}
 use Rattle.run.specs.Said.{runIn}
 use Rattle.run.proofs.Listed.{ok, channels-are}
@@ -11,9 +11,13 @@ use Rattle.search.proofs.Moving.{search-start}
 use Rattle.search.proofs.eliminate.search.Statement.{statement}
 use Rattle.search.proofs.eliminate.search.Tie as tie
 
+-- the entry, seen from behind the two rows
+abbrev entry : tie.After-unsent → tie.Start
+entry c = c .before .before .before .before .before .before .before .before
+
 eliminate-requires : tie.Need-eliminate-requires
 eliminate-requires c κs =
-    let u = c .before .before .before .before .before .before .before .before in
+    let u = entry c in
     let (g, e) = u .pre in
     let read = g .index .listed .read in (
       g,

@@ -27,15 +27,19 @@ each-listed r cut h w = record {
   each = λ c g. w .front c (omega (arith, tabulate-length (length (r .channels)) (λ c. length (inTransit r cut c)))) ∙ tabulate-at _ _ c 0 g;
 }
 
--- the places of the code: the entry seen from behind the local clauses, these seen from behind the clocks, and those from behind the channel clauses
+-- the places of the code: the entry seen from behind the local clauses, these seen from behind the clocks, and those from behind the channel clauses,
+-- where the clocks passed
 abbrev entry : tie.After-first-local → tie.Start
 entry l = l .before .before .before .before .before .before
 
 abbrev locals : tie.After-consistent → tie.After-first-local
 locals k = k .before .before .before
 
+abbrev passed : tie.After-first-channel → tie.Else1
+passed h = h .before .before .before .before .before .before .before
+
 abbrev clocks : tie.After-first-channel → tie.After-consistent
-clocks h = h .before .before .before .before .before .before .before .before
+clocks h = passed h .before
 
 first-local-requires : tie.Need-first-local-requires
 first-local-requires c κs = let r = c .before .before .before .before .before .pre in (r .0, r .1)
@@ -85,7 +89,7 @@ all-hold c =
     let r = entry l .pre in
     let told = k .consistent .ensures _ (r .0 .index .clocks) (r .1) in
     let every = both-kinds (r .0) _ (k .before .enum-told .given .1) (l .first-local .ensures) (c .enum-told3 .given .1) (h .first-channel .ensures) in
-    (λ e. record { isCut = r .1; consistent = told .0 (not-false _ (h .before .before .before .before .before .before .before .if1 .left)); clauses = every }, λ w. refl)
+    (λ e. record { isCut = r .1; consistent = told .0 (not-false _ (passed h .if1 .left)); clauses = every }, λ w. refl)
 
 pub satisfied-spec : {M : Type 1} → statement M
 satisfied-spec =
