@@ -26,7 +26,7 @@ fn local_clause(run: &[u8], index: &[u16], cond: &[u8], at: usize, cut: &[u16]) 
     }
 }
 
-// The same, if it is a channel clause, where the row counts what is in transit.
+// The same, if it is a channel clause; the row counts what is in transit.
 fn channel_clause(
     run: &[u8],
     index: &[u16],
@@ -41,10 +41,7 @@ fn channel_clause(
     let clause = clause_at(cond, at);
     match clause {
         Clause::Local(_) => HasToMove::Nobody,
-        Clause::Channel(test) => {
-            let channel = test.channel as usize;
-            channel_mover(run, index, cut, test, counts[channel] as usize)
-        }
+        Clause::Channel(test) => channel_mover(run, index, cut, test, counts),
     }
 }
 

@@ -17,8 +17,7 @@ ghost use Rattle.run.specs.Said.{statesOf, runIn};
 ghost use Rattle.run.specs.Index.{IndexHolds};
 ghost use Rattle.condition.specs.Clauses.{testOf, clauseOf};
 ghost use Rattle.condition.specs.Known.{LocalKnown, TestKnown};
-ghost use Rattle.clause.specs.ChannelTests.{CountKnown};
-ghost use Rattle.search.specs.Search.{Tested, EndNamed};
+ghost use Rattle.search.specs.Search.{Counted, Tested, EndNamed};
 
 // A local clause names its process.
 pub(crate) fn local_mover(run: &[u8], index: &[u16], cut: &[u16], clause: Local) -> HasToMove
@@ -57,17 +56,19 @@ fn end_named(run: &[u8], clause: Test, count: usize) -> HasToMove
     }
 }
 
-// A channel clause names its sender or its receiver.
+// A channel clause names its sender or its receiver; the row counts what is in transit.
 pub(crate) fn channel_mover(
     run: &[u8],
     index: &[u16],
     cut: &[u16],
     clause: Test,
-    count: usize,
+    counts: &[u16],
 ) -> HasToMove
-    requires { ⌜ TestKnown (headOf (now run)) clause × CountKnown (now run) (now index) (now cut) clause count ⌝ }
+    requires { ⌜ Counted (now run) (now index) (now cut) (now counts) × TestKnown (headOf (now run)) clause ⌝ }
     ensures { λ r. ⌜ Tested (runIn (now (run .entry))) (now (cut .entry)) (clauseOf (Clause.Channel clause)) r ⌝ }
 {
+    let channel = clause.channel as usize;
+    let count = counts[channel] as usize;
     if channel_passes(run, index, cut, clause, count) {
         return HasToMove::Nobody;
     }
