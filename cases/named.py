@@ -19,6 +19,7 @@ from named_clauses import named_clauses  # noqa: E402
 from named_conditions import named_conditions  # noqa: E402
 from named_cuts import named_cuts  # noqa: E402
 from named_faults import named_faults  # noqa: E402
+from named_moves import named_moves  # noqa: E402
 from named_order import named_order  # noqa: E402
 from named_pairs import named_pairs  # noqa: E402
 from named_runs import named_runs  # noqa: E402
@@ -32,6 +33,7 @@ def named_cases() -> Iterator[Named]:
         named_clauses,
         named_conditions,
         named_cuts,
+        named_moves,
         named_stamps,
         named_runs,
         named_faults,

@@ -112,6 +112,13 @@ CUTS_CHANNELS_PLACES = (
     "the condition is refused ahead of the cut",
 )
 
+KEPT_COUNTS = (
+    "kept counts, receives ahead of their sends",
+    "kept counts, sends ahead of their receives",
+    "kept counts, messages that overtake each other",
+    "kept counts, two channels",
+)
+
 LOWEST_STAMPS = (
     "lowest stamp, negative stamps",
     "lowest stamp, equal stamps",
@@ -222,6 +229,7 @@ SHAPES: tuple[str, ...] = (
     *REFUSED_CONDITIONS,
     *CONDITION_ORDERS,
     *CUTS_CHANNELS_PLACES,
+    *KEPT_COUNTS,
     *LOWEST_STAMPS,
     *SOUND_RUNS_AND_LIMITS,
     *REFUSED_RUNS,

@@ -19,7 +19,7 @@ use Rattle.model.specs.Cut.{onChannel, sends, someUpTo, waiting, add, up
 use Rattle.model.specs.Sent.{receives}
 use Rattle.model.specs.NotYetSent.{unsent, ahead, OneMove}
 use Rattle.model.proofs.Lists.{some-at, at-some}
-use Rattle.model.proofs.Pairing.{view, sent-there, received-there, first-start, one-send, one-receive}
+use Rattle.model.proofs.Pairing.{view, sent-there, first-start, one-send, one-receive}
 use Rattle.model.proofs.Messages.{arrived, sends-send, send-sends, receives-receive, receive-receives}
 
 -- lists that agree state by state are as long, and one that has a message more at one state is longer by one
@@ -171,13 +171,7 @@ module _ (r : Run) (known : Known r) (c : ℕ) where
   unfolding between waiting ahead unsent
   receiver-move a b = one-way (λ l k. paired r i k j l) (receives r c) (sends r c) other-way b a
 
-  -- whether the other end is in, told from its place
-  pub got-iff : {k l : ℕ} → Paired r i k j l → (b : ℕ) → T (arrived r i k j b) ↔ (l ≤ b)
-  got-iff {k} {l} p b = (
-    λ t. let (l′, x, y, u) = some-at (paired r i k j) b t in let e = one-one .right k l l′ (p .same) u in omega arith,
-    λ h. at-some (paired r i k j) b l (received-there (view p .receive) .counted) h (p .same),
-  )
-
+  -- whether what a receive receives is sent, told from the place of its send
   pub given-iff : {k l : ℕ} → Paired r i k j l → (a : ℕ) → T (given r c l a) ↔ (k ≤ a)
   given-iff {k} {l} p a = (
     λ t. let (k′, x, y, u) = some-at (λ k. paired r i k j l) a t in let e = one-one .back k k′ l (p .same) u in omega arith,
