@@ -1,12 +1,13 @@
 -- What `bring_forward` needs and leaves, by the event of the state that the process moves into.
 use mathlib.Core.Path.{_≡_, refl, sym, ap, _∙_, subst}
 use mathlib.Core.Logic.{_≢_}
-use mathlib.Core.Bool.{Bool, cond, _||_}
+use mathlib.Core.Bool.{Bool, _||_}
 use mathlib.Core.List.{List}
-use Prim.Native.Nat.{ℕ, _+_, _-_, _<_}
+use Prim.Native.Nat.{ℕ, _+_, _<_}
 use native.Mathlib.Omega.{arith}
 use lib.Dec.{eqb, ltb}
-use lib.ListN.{length, getD, set}
+use lib.ListN.{length, getD}
+use Rattle.model.specs.declared.Channel.{Channel}
 use Rattle.model.specs.declared.Message.{Message}
 use Rattle.model.specs.declared.Event.the-variants.{Send, Receive}
 use Rattle.model.specs.Run.{Run, into, channel, IsState}
@@ -16,12 +17,14 @@ use Rattle.model.specs.NotYetSent.{unsent, ahead, notYetSent, moveOn}
 use Rattle.model.proofs.Numbers.{never}
 use Rattle.model.proofs.Messages.{send-sends, receive-receives}
 use Rattle.model.proofs.Kept.{kept-sender, kept-receiver, kept-still}
+use Rattle.states.specs.States.{channelAt}
 use Rattle.run.specs.Said.{runIn}
-use Rattle.run.specs.Index.{partnerAt}
-use Rattle.transit.proofs.Between.{upTo-few}
+use Rattle.run.specs.Index.{indexSize, partnerAt, HasSlot}
+use Rattle.run.proofs.Listed.{channels-are, listed-slot}
+use Rattle.transit.proofs.Between.{Ends, ends-of, upTo-few}
 use Rattle.transit.proofs.Stored.{states-few}
-use Rattle.kept.specs.Kept.{CountsKept, MayMove, Countable}
-use Rattle.kept.proofs.Counted.{none-changed, Move, counted-own, counted-other, countable}
+use Rattle.kept.specs.Kept.{CountsKept, MayMove}
+use Rattle.kept.proofs.Counted.{none-changed, CountedMessage, counted-message}
 use Rattle.kept.proofs.Partners.{sent-past, received-past}
 
 module _ {s ix cut : List ℕ} {p : ℕ} (w : MayMove s ix cut p) where
@@ -36,6 +39,16 @@ module _ {s ix cut : List ℕ} {p : ℕ} (w : MayMove s ix cut p) where
 
   pub next-state : IsState r p next
   next-state = record { counted = omega arith; there = omega (arith, w .further) }
+
+  pub has-slot : (length ix ≡ indexSize) × HasSlot p next
+  has-slot = (w .index .listed .long, listed-slot s ix (w .index .listed) next-state)
+
+  -- the ends of a channel, which the cut has
+  pub ends-in : {c : ℕ} → c < length (r .channels) → {e : Channel} → e ≡ channelAt s c → Ends r c e
+  ends-in h z = let read = w .index .listed .read in ends-of s read (omega (arith, channels-are s read)) z
+
+  pub in-cut : {c : ℕ} {e : Channel} → Ends r c e → (e .from < length cut) × (e .to < length cut)
+  in-cut ends = (omega (arith, ends .from, w .isCut .size), omega (arith, ends .to, w .isCut .size))
 
   -- the code's test of the partner of that state
   abbrev pub past-of : ℕ → Bool
@@ -76,52 +89,26 @@ module _ {s ix cut : List ℕ} {p : ℕ} (w : MayMove s ix cut p) where
         same : (c : ℕ) → c < length (r .channels) → (length (on′ c) ≡ length (on c)) × (length (early′ c) ≡ length (early c))
         same c h = kept-still r known cut (w .isCut) p (w .process) c h (λ m e z. x m e) (λ m e z. y m e)
 
-    module _ (m : Message) where
-      abbrev c : ℕ
-      c = m .channel
+    -- a send: its own number is the first
+    pub send-counted : (m : Message) → into r p next ≡ Send m → (past : Bool) → past ≡ past-of (at cut (channel r (m .channel) .to))
+        → CountedMessage past (m .channel) counts ahead (CountsKept r (moveOn cut p))
+    send-counted m e past z =
+        let c = m .channel in
+        let (named, own) = known .sides .sender p next m e in
+        let others = elsewhere c (λ n g. ap (λ x. x .channel) (let same : n ≡ m = cc (g, e) in same)) (λ n g. never (cc (g, e))) in
+        counted-message on early on′ early′ (kept .first) (kept .second) named _ (λ x y a b. record { first = a; second = b }) past m
+        (rw (send-sends r c next m (subst (λ q. into r q next ≡ Send m) (sym own) e) refl, sent-past r known ix (w .index .partners) p next m e (at cut (channel r c .to)), ← z)
+        at (kept-sender r known cut (w .isCut) p (w .process) c named own))
+        (on-few c named) (λ d h n. others d h n .0) (λ d h n. others d h n .1)
 
-      -- a send
-      module _ (e : into r p next ≡ Send m) (past : Bool) (z : past ≡ past-of (at cut (channel r c .to))) where
-        send-named : c < length (r .channels)
-        send-named = known .sides .sender p next m e .0
-
-        send-move : Move on early on′ early′ (kept .first) (kept .second) send-named past m
-        send-move =
-            let own = known .sides .sender p next m e .1 in
-            rw (send-sends r c next m (subst (λ q. into r q next ≡ Send m) (sym own) e) refl, sent-past r known ix (w .index .partners) p next m e (at cut (channel r c .to)), ← z)
-            at (kept-sender r known cut (w .isCut) p (w .process) c send-named own)
-
-        send-others : (d : ℕ) → d < length (r .channels) → d ≢ c → (length (on′ d) ≡ length (on d)) × (length (early′ d) ≡ length (early d))
-        send-others = elsewhere c (λ n g. ap (λ x. x .channel) (let same : n ≡ m = cc (g, e) in same)) (λ n g. never (cc (g, e)))
-
-        pub send-countable : Countable past c counts ahead
-        send-countable = countable on early on′ early′ (kept .first) (kept .second) send-named past m send-move (on-few c send-named)
-
-        pub send-brought : CountsKept r (moveOn cut p) (cond past (set counts c (getD counts c 0 + 1)) counts) (cond past ahead (set ahead c (getD ahead c 0 - 1)))
-        send-brought = record {
-          first = counted-own on early on′ early′ (kept .first) (kept .second) send-named past m send-move (λ d h n. send-others d h n .0);
-          second = counted-other on early on′ early′ (kept .first) (kept .second) send-named past m send-move (λ d h n. send-others d h n .1);
-        }
-
-      -- a receive: the same with the two numbers in each other's place
-      module _ (e : into r p next ≡ Receive m) (past : Bool) (z : past ≡ past-of (at cut (channel r c .from))) where
-        receive-named : c < length (r .channels)
-        receive-named = known .sides .receiver p next m e .0
-
-        receive-move : Move early on early′ on′ (kept .second) (kept .first) receive-named past m
-        receive-move =
-            let own = known .sides .receiver p next m e .1 in
-            rw (receive-receives r c next m (subst (λ q. into r q next ≡ Receive m) (sym own) e) refl, received-past r known ix (w .index .partners) p next m e (at cut (channel r c .from)), ← z)
-            at (kept-receiver r known cut (w .isCut) p (w .process) c receive-named own)
-
-        receive-others : (d : ℕ) → d < length (r .channels) → d ≢ c → (length (on′ d) ≡ length (on d)) × (length (early′ d) ≡ length (early d))
-        receive-others = elsewhere c (λ n g. never (cc (g, e))) (λ n g. ap (λ x. x .channel) (let same : n ≡ m = cc (g, e) in same))
-
-        pub receive-countable : Countable past c ahead counts
-        receive-countable = countable early on early′ on′ (kept .second) (kept .first) receive-named past m receive-move (early-few c receive-named)
-
-        pub receive-brought : CountsKept r (moveOn cut p) (cond past counts (set counts c (getD counts c 0 - 1))) (cond past (set ahead c (getD ahead c 0 + 1)) ahead)
-        receive-brought = record {
-          first = counted-other early on early′ on′ (kept .second) (kept .first) receive-named past m receive-move (λ d h n. receive-others d h n .0);
-          second = counted-own early on early′ on′ (kept .second) (kept .first) receive-named past m receive-move (λ d h n. receive-others d h n .1);
-        }
+    -- a receive: its own number is the second
+    pub receive-counted : (m : Message) → into r p next ≡ Receive m → (past : Bool) → past ≡ past-of (at cut (channel r (m .channel) .from))
+        → CountedMessage past (m .channel) ahead counts (λ x y. CountsKept r (moveOn cut p) y x)
+    receive-counted m e past z =
+        let c = m .channel in
+        let (named, own) = known .sides .receiver p next m e in
+        let others = elsewhere c (λ n g. never (cc (g, e))) (λ n g. ap (λ x. x .channel) (let same : n ≡ m = cc (g, e) in same)) in
+        counted-message early on early′ on′ (kept .second) (kept .first) named _ (λ x y a b. record { first = b; second = a }) past m
+        (rw (receive-receives r c next m (subst (λ q. into r q next ≡ Receive m) (sym own) e) refl, received-past r known ix (w .index .partners) p next m e (at cut (channel r c .from)), ← z)
+        at (kept-receiver r known cut (w .isCut) p (w .process) c named own))
+        (early-few c named) (λ d h n. others d h n .1) (λ d h n. others d h n .0)

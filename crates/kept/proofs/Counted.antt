@@ -30,27 +30,37 @@ module _ {r : Run} {f g : ℕ → List Message} {row : List ℕ} (w : EachCounte
     ];
   }
 
--- a message on channel d: where its other end is past the cut it is one more of its own number, else one less of the other's
+-- a message on channel d may be counted, and what is known of both rows afterwards
+pub record CountedMessage (past : Bool) (d : ℕ) (own other : List ℕ) (After : List ℕ → List ℕ → Type 0) : Type 0 where
+  pub needs : Countable past d own other
+  pub after : After (cond past (set own d (getD own d 0 + 1)) own) (cond past other (set other d (getD other d 0 - 1)))
+
+-- where its other end is past the cut it is one more of its own number, else one less of the other's
 module _ {r : Run} (f g f′ g′ : ℕ → List Message) {own other : List ℕ} (v : EachCounted r f own) (w : EachCounted r g other) {d : ℕ} (there : d < length (r .channels)) where
   -- the other channels are as they were
   abbrev Elsewhere : (ℕ → List Message) → (ℕ → List Message) → Type 0
   Elsewhere x x′ = (c : ℕ) → c < length (r .channels) → c ≢ d → length (x′ c) ≡ length (x c)
 
-  abbrev pub Move : Bool → Message → Type 0
+  abbrev Move : Bool → Message → Type 0
   Move past m = OneMove (some m) (not past) (length (f d)) (length (g d)) (length (f′ d)) (length (g′ d))
 
-  pub counted-own : (past : Bool) (m : Message) → Move past m → Elsewhere f f′ → EachCounted r f′ (cond past (set own d (getD own d 0 + 1)) own)
+  counted-own : (past : Bool) (m : Message) → Move past m → Elsewhere f f′ → EachCounted r f′ (cond past (set own d (getD own d 0 + 1)) own)
   counted-own true m (a, b) s = one-changed v there s (omega (arith, v .each d there, a))
   counted-own false m (a, b) s = none-changed v (λ c h. elim (ℕ-discrete c d) [ yes z ↦ rw z a | no z ↦ s c h z ])
 
-  pub counted-other : (past : Bool) (m : Message) → Move past m → Elsewhere g g′ → EachCounted r g′ (cond past other (set other d (getD other d 0 - 1)))
+  counted-other : (past : Bool) (m : Message) → Move past m → Elsewhere g g′ → EachCounted r g′ (cond past other (set other d (getD other d 0 - 1)))
   counted-other true m (a, b) s = none-changed w (λ c h. elim (ℕ-discrete c d) [ yes z ↦ rw z b | no z ↦ s c h z ])
   counted-other false m (a, b) s = one-changed w there s (omega (arith, w .each d there, b))
 
-  pub countable : (past : Bool) (m : Message) → Move past m → length (f d) < 65535 → Countable past d own other
+  countable : (past : Bool) (m : Message) → Move past m → length (f d) < 65535 → Countable past d own other
   countable past m move few = record {
     inOwn = omega (arith, v .room);
     inOther = omega (arith, w .room);
     room = omega (arith, v .each d there, few);
     some = λ e. let (a, b) = subst (λ t. Move t m) e move in omega (arith, w .each d there, b);
   }
+
+  pub counted-message : (After : List ℕ → List ℕ → Type 0) → ((x y : List ℕ) → EachCounted r f′ x → EachCounted r g′ y → After x y) → (past : Bool) (m : Message) → Move past m
+      → length (f d) < 65535 → Elsewhere f f′ → Elsewhere g g′ → CountedMessage past d own other After
+  counted-message After both past m move few s t =
+      record { needs = countable past m move few; after = both _ _ (counted-own past m move s) (counted-other past m move t) }

@@ -7,12 +7,15 @@ use lib.ListN.{length, getD}
 use Prim.Native.Nat.{_+_, _<_}
 use Rattle.model.proofs.Numbers.{never}
 use Rattle.model.specs.declared.Event.the-variants.{Send, Receive}
-use Rattle.model.specs.Run.{into, channel}
+use Rattle.model.specs.Run.{into}
+use Rattle.model.specs.NotYetSent.{moveOn}
 use Rattle.run.specs.Said.{runIn}
-use Rattle.run.proofs.Listed.{channels-are, channel-record, listed-slot}
-use Rattle.transit.proofs.Between.{Ends, ends-of}
+use Rattle.run.proofs.Listed.{channel-record}
+use Rattle.transit.proofs.Between.{Ends}
 use Rattle.transit.proofs.Stored.{processes-few, states-few}
-use Rattle.kept.proofs.Brought.{next-state, past-of, quiet, send-countable, send-brought, receive-countable, receive-brought}
+use Rattle.kept.specs.Kept.{CountsKept}
+use Rattle.kept.proofs.Counted.{CountedMessage}
+use Rattle.kept.proofs.Brought.{next-state, has-slot, ends-in, in-cut, past-of, quiet, send-counted, receive-counted}
 use Rattle.kept.proofs.bring_forward.Statement.{statement}
 use Rattle.kept.proofs.bring_forward.Tie as tie
 
@@ -58,42 +61,27 @@ channel-at-requires : tie.Need-channel-at-requires
 channel-at-requires c κs = let t = c .before in channel-record _ (entry (t .before .before) .pre .0 .index .listed .read) _ (send-named t)
 
 send-ends : (c : tie.After-channel-at) → let t = sent c in Ends (runIn (entry (t .before .before) .args .run .now)) (t .event .given .0 .0 .channel) (c .channel-at .result)
-send-ends c =
-    let t = sent c in
-    let read = entry (t .before .before) .pre .0 .index .listed .read in
-    ends-of _ read (omega (arith, channels-are _ read, send-named t)) (c .channel-at .ensures)
+send-ends c = ends-in (entry (sent c .before .before) .pre .0) (send-named (sent c)) (c .channel-at .ensures)
 
 slice-read-to : tie.Need-shared-slice-read-other-end-past
-slice-read-to c = let a = c .before .before in omega (arith, send-ends a .from, send-ends a .to, entry (sent a .before .before) .pre .0 .isCut .size)
+slice-read-to c = let a = c .before .before in let (from, to) = in-cut (entry (sent a .before .before) .pre .0) (send-ends a) in omega (arith, from, to)
 
 other-end-past-requires : tie.Need-other-end-past-requires
-other-end-past-requires c κs =
-    let w = entry (sent (c .before .before) .before .before) .pre .0 in
-    (w .index .listed .long, listed-slot _ _ (w .index .listed) (next-state w))
+other-end-past-requires c κs = has-slot (entry (sent (c .before .before) .before .before) .pre .0)
 
--- what the partner tells is about the state that the cut has for the receiver
-send-past : (n : tie.After-other-end-past) → let a = n .before .before .before in let t = sent a in let u = entry (t .before .before) in
-    n .other-end-past .result ≡ past-of (u .pre .0) (getD (u .args .cut .now) (channel (runIn (u .args .run .now)) (t .event .given .0 .0 .channel) .to) 0)
-send-past n =
-    let a = n .before .before .before in
-    let u = entry (sent a .before .before) in
-    n .other-end-past .ensures ∙ ap (λ e. past-of (u .pre .0) (getD (u .args .cut .now) (e .to) 0)) (send-ends a .same)
+-- the message is counted by the state that the cut has for the receiver
+send-told : (n : tie.After-other-end-past) → let t = sent (n .before .before .before) in let u = entry (t .before .before) in let a = u .args in
+    CountedMessage (n .other-end-past .result) (t .event .given .0 .0 .channel) (a .counts .now) (a .unsent .now) (CountsKept (runIn (a .run .now)) (moveOn (a .cut .now) (a .p)))
+send-told n =
+    let c = n .before .before .before in
+    let u = entry (sent c .before .before) in
+    send-counted (u .pre .0) (u .pre .1) _ (is-send (sent c)) _ (n .other-end-past .ensures ∙ ap (λ e. past-of (u .pre .0) (getD (u .args .cut .now) (e .to) 0)) (send-ends c .same))
 
 count-message-requires : tie.Need-count-message-requires
-count-message-requires c κs =
-    let n = c .before .before .before in
-    let t = sent (n .before .before .before) in
-    let u = entry (t .before .before) in
-    send-countable (u .pre .0) (u .pre .1) _ (is-send t) _ (send-past n)
+count-message-requires c κs = send-told (c .before .before .before) .needs
 
 send : tie.Need-returns-3
-send c =
-    let m = c .before .before .before .before in
-    let n = m .before .before .before .before in
-    let t = sent (n .before .before .before) in
-    let u = entry (t .before .before) in
-    let (first, second) = m .count-message .ensures in
-    rw (first, second) (send-brought (u .pre .0) (u .pre .1) _ (is-send t) _ (send-past n))
+send c = let m = c .before .before .before .before in rw (m .count-message .ensures .0, m .count-message .ensures .1) (send-told (m .before .before .before .before) .after)
 
 -- ---- a receive
 
@@ -107,41 +95,27 @@ channel-at-requires-2 : tie.Need-channel-at-requires-2
 channel-at-requires-2 c κs = let t = c .before in channel-record _ (entry (t .before .before) .pre .0 .index .listed .read) _ (receive-named t)
 
 receive-ends : (c : tie.After-channel-at2) → let t = received c in Ends (runIn (entry (t .before .before) .args .run .now)) (t .event2 .given .0 .0 .channel) (c .channel-at2 .result)
-receive-ends c =
-    let t = received c in
-    let read = entry (t .before .before) .pre .0 .index .listed .read in
-    ends-of _ read (omega (arith, channels-are _ read, receive-named t)) (c .channel-at2 .ensures)
+receive-ends c = ends-in (entry (received c .before .before) .pre .0) (receive-named (received c)) (c .channel-at2 .ensures)
 
 slice-read-from : tie.Need-shared-slice-read-other-end-past-2
-slice-read-from c = let a = c .before .before in omega (arith, receive-ends a .from, receive-ends a .to, entry (received a .before .before) .pre .0 .isCut .size)
+slice-read-from c = let a = c .before .before in let (from, to) = in-cut (entry (received a .before .before) .pre .0) (receive-ends a) in omega (arith, from, to)
 
 other-end-past-requires-2 : tie.Need-other-end-past-requires-2
-other-end-past-requires-2 c κs =
-    let w = entry (received (c .before .before) .before .before) .pre .0 in
-    (w .index .listed .long, listed-slot _ _ (w .index .listed) (next-state w))
+other-end-past-requires-2 c κs = has-slot (entry (received (c .before .before) .before .before) .pre .0)
 
-receive-past : (n : tie.After-other-end-past2) → let a = n .before .before .before in let t = received a in let u = entry (t .before .before) in
-    n .other-end-past2 .result ≡ past-of (u .pre .0) (getD (u .args .cut .now) (channel (runIn (u .args .run .now)) (t .event2 .given .0 .0 .channel) .from) 0)
-receive-past n =
-    let a = n .before .before .before in
-    let u = entry (received a .before .before) in
-    n .other-end-past2 .ensures ∙ ap (λ e. past-of (u .pre .0) (getD (u .args .cut .now) (e .from) 0)) (receive-ends a .same)
+-- and by the state that it has for the sender
+receive-told : (n : tie.After-other-end-past2) → let t = received (n .before .before .before) in let u = entry (t .before .before) in let a = u .args in
+    CountedMessage (n .other-end-past2 .result) (t .event2 .given .0 .0 .channel) (a .unsent .now) (a .counts .now) (λ x y. CountsKept (runIn (a .run .now)) (moveOn (a .cut .now) (a .p)) y x)
+receive-told n =
+    let c = n .before .before .before in
+    let u = entry (received c .before .before) in
+    receive-counted (u .pre .0) (u .pre .1) _ (is-receive (received c)) _ (n .other-end-past2 .ensures ∙ ap (λ e. past-of (u .pre .0) (getD (u .args .cut .now) (e .from) 0)) (receive-ends c .same))
 
 count-message-requires-2 : tie.Need-count-message-requires-2
-count-message-requires-2 c κs =
-    let n = c .before .before .before in
-    let t = received (n .before .before .before) in
-    let u = entry (t .before .before) in
-    receive-countable (u .pre .0) (u .pre .1) _ (is-receive t) _ (receive-past n)
+count-message-requires-2 c κs = receive-told (c .before .before .before) .needs
 
 receive : tie.Need-returns-4
-receive c =
-    let m = c .before .before .before .before in
-    let n = m .before .before .before .before in
-    let t = received (n .before .before .before) in
-    let u = entry (t .before .before) in
-    let (second, first) = m .count-message2 .ensures in
-    rw (first, second) (receive-brought (u .pre .0) (u .pre .1) _ (is-receive t) _ (receive-past n))
+receive c = let m = c .before .before .before .before in rw (m .count-message2 .ensures .1, m .count-message2 .ensures .0) (receive-told (m .before .before .before .before) .after)
 
 pub bring-forward-spec : {M : Type 1} → statement M
 bring-forward-spec =
