@@ -1,5 +1,7 @@
 // The lines of an answer, made in a lent buffer. What they are is said in `specs/Lines.antt`. Each call first has the lines made where there is no room,
 // which tells how long they are: so nothing is written into a buffer that is too short.
+#![tactic(auto)]
+
 mod channels;
 
 ghost use Rattle.std.specs.Prelude.{min, ◌≡◌, length};
@@ -14,7 +16,7 @@ use record::{File, Refusal};
 use writing::{pair_line, row_lines, text};
 
 // How many bytes the lines have that stand at the front of the buffer, or that it is too short and as it was.
-#[derive(Drop)]
+#[derive(Clone, Copy)]
 pub enum Made {
     Lines(usize),
     TooShort,

@@ -1,5 +1,7 @@
 // The judging of a condition beside an accepted run's head. `reading` has the reading step, `judge` the tests of one record, `movers` who has
 // to move, `pass` goes over all records, `clauses` says what stands in a clause record.
+#![tactic(auto)]
+
 pub mod clauses;
 mod judge;
 pub mod movers;
@@ -9,7 +11,7 @@ pub mod reading;
 use record::Refusal;
 
 // A local clause as its record says it.
-#[derive(Drop)]
+#[derive(Clone, Copy)]
 pub struct Local {
     pub process: u16,
     pub value: u16,
@@ -18,21 +20,21 @@ pub struct Local {
 }
 
 // A channel clause as its record says it.
-#[derive(Drop)]
+#[derive(Clone, Copy)]
 pub struct Test {
     pub channel: u16,
     pub test: u16,
     pub operand: u32,
 }
 
-#[derive(Drop)]
+#[derive(Clone, Copy)]
 pub enum Clause {
     Local(Local),
     Channel(Test),
 }
 
 // A record of a condition: the head with the number of clauses, a clause, the end.
-#[derive(Drop)]
+#[derive(Clone, Copy)]
 pub enum Item {
     Head(u16),
     Clause(Clause),
@@ -40,14 +42,14 @@ pub enum Item {
 }
 
 // A record of a condition with the place after it, or else the refusal.
-#[derive(Drop)]
+#[derive(Clone, Copy)]
 pub enum ConditionStep {
     Got(Item, usize),
     Refused(Refusal),
 }
 
 // What the pass gives: the number of clauses of a condition that it accepts, or the first refusal.
-#[derive(Drop)]
+#[derive(Clone, Copy)]
 pub enum ConditionReading {
     Accepted(u16),
     Refused(Refusal),

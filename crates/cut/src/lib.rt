@@ -1,10 +1,12 @@
 // At a cut of an accepted run: is it a cut, is it consistent, how many messages are on each channel. Every answer comes from the index.
+#![tactic(auto)]
+
 pub mod choice;
 pub mod clocks;
 pub mod listing;
 
 // Who has to move: whom the clocks find behind, or whom a false clause names.
-#[derive(Drop)]
+#[derive(Clone, Copy)]
 pub enum HasToMove {
     Nobody,
     Process(usize),

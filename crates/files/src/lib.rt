@@ -1,8 +1,10 @@
 // Reading whole files, for the programs. The functions of the operating system have no contract on what a file holds.
+#![tactic(auto)]
+
 ghost use Rattle.std.specs.Prelude.{◌≡◌, ◌≤◌, length};
 
 // How many bytes were read, and whether every read went well.
-#[derive(Drop)]
+#[derive(Clone, Copy)]
 pub struct Got {
     pub whole: bool,
     pub n: usize,

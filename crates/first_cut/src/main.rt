@@ -1,4 +1,6 @@
 // Reads a run and a condition, and prints the first cut of the run at which the condition holds.
+#![tactic(auto)]
+
 ghost use Rattle.std.specs.Prelude.{◌≤◌, length};
 
 use answers::Made;

@@ -1,5 +1,7 @@
 // The two numbers that are kept for each channel while processes move: how many messages are in transit, and how many are received but not yet sent. One
 // move changes them on one channel alone, by one.
+#![tactic(auto)]
+
 ghost use Rattle.std.specs.Prelude.{◌≡◌, cond, ◌||◌, ◌+◌, ◌-◌, eqb, ltb, length, get_or, set};
 ghost use Rattle.model.specs.NotYetSent.{move_on};
 ghost use Rattle.run.specs.Said.{run_in};

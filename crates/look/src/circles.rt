@@ -6,7 +6,7 @@ use crate::line::{begin, end, named, part, short_at};
 use run::index::{INDEX_SIZE, clock_at, partner_of, place_of};
 
 // A state by its process and its number.
-#[derive(Drop)]
+#[derive(Clone, Copy)]
 struct Spot {
     process: u16,
     number: u16,

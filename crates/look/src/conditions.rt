@@ -90,7 +90,7 @@ fn goes_on(item: Item) -> bool {
 }
 
 // The place after a record and what is owed there; the same place again where nothing follows.
-#[derive(Drop)]
+#[derive(Clone, Copy)]
 struct Next {
     place: usize,
     owed: u16,

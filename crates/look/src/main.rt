@@ -1,4 +1,6 @@
 // Prints what stands in a run or in a condition, record by record, in words; docs/FORMAT.md has the lines.
+#![tactic(auto)]
+
 mod circles;
 mod conditions;
 mod line;

@@ -129,6 +129,7 @@ span_mem a zero k p q = absurd (omega arith)
 span_mem a (suc n) k p q = ⊎_elim (λ e. Memᴰ.head (sym e)) (λ g. Memᴰ.tail (span_mem (suc a) n k g (omega arith))) (eq-or-lt_of_le p)
 
 each_mem : (ks : List ℕ) (cs : List (List ℕ)) {k : ℕ} {c : List ℕ} → Memᴰ k ks → Memᴰ c cs → Memᴰ (k ∷ c) (each ks cs)
+each_mem [] cs x m = elim x [ ]
 each_mem (x ∷ ks) cs {k} {c} (Memᴰ.head e) m = Memᴰ.cast (ap (λ y. y ∷ c) e) (Memᴰ.append_left (each ks cs) (Memᴰ.map (λ c. x ∷ c) m))
 each_mem (x ∷ ks) cs (Memᴰ.tail q) m = Memᴰ.append_right (map (λ c. x ∷ c) cs) (each_mem ks cs q m)
 
@@ -191,6 +192,7 @@ module _ {f : List ℕ → List ℕ → List ℕ} {R : ℕ → ℕ → Type 0} (
   fold_start c (d ∷ ds) i = w.chain _ (at (f c d) i) _ (fold_start (f c d) ds i) (w.left c d i)
 
   fold_rest : (c : List ℕ) (cs : List (List ℕ)) {d : List ℕ} → Memᴰ d cs → (i : ℕ) → R (at (fold f c cs) i) (at d i)
+  fold_rest c [] x i = elim x [ ]
   fold_rest c (x ∷ cs) (Memᴰ.head e) i = rw e (w.chain _ (at (f c x) i) _ (fold_start (f c x) cs i) (w.right c x i))
   fold_rest c (x ∷ cs) (Memᴰ.tail q) i = fold_rest (f c x) cs q i
 

@@ -55,6 +55,7 @@ Computed r [] = Unit {0}
 Computed r (k ∷ ks) = (Linear k.clauses × (first? r k.clauses ≡ k.answer)) × Computed r ks
 
 all_answered : (r : Run) → Known r → (ks : List Example) → Computed r ks → (k : Example) → Memᴰ k ks → Answer r k.clauses k.answer
+all_answered r known [] w k x = elim x [ ]
 all_answered r known (x ∷ ks) w k (Memᴰ.head e) = rw e (answered r known x.clauses w.0.0 x.answer w.0.1)
 all_answered r known (x ∷ ks) w k (Memᴰ.tail q) = all_answered r known ks w.1 k q
 

@@ -181,7 +181,7 @@ module _ (r : Run) (known : Known r) (c : ℕ) where
   -- at first states both are empty
   pub kept_start : (a b : ℕ) → a ≤ 1 → b ≤ 1 → (length (between r c a b) ≡ 0) × (length (ahead r c a b) ≡ 0)
   unfolding between waiting ahead unsent sends receives
-  kept_start a b h g = (nothing _ a h (go (arrived r i 1 j b) _ (first_start r known i)), nothing _ b g (back (given r c 1 a) _ (first_start r known j)))
+  kept_start a b h g = (nothing (waiting r c b) a h (go (arrived r i 1 j b) _ (first_start r known i)), nothing (unsent r c a) b g (back (given r c 1 a) _ (first_start r known j)))
     where
       nothing : (f : ℕ → Option Message) (n : ℕ) → n ≤ 1 → f 1 ≡ none → length (up_to f n) ≡ 0
       nothing f zero h e = refl

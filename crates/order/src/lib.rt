@@ -1,5 +1,7 @@
 // 12 and 13: which states come after a circle, the clocks of all others, and which records have another. A state is done
 // when the state before it is, and at a receive the state ahead of the send.
+#![tactic(auto)]
+
 ghost use Rattle.std.specs.Prelude.{◌≡◌, ◌≢◌, ◌≤◌, ◌<◌, max, length, replicate};
 ghost use Rattle.model.specs.Run.{IsState};
 ghost use Rattle.record.specs.Record.{head_of};

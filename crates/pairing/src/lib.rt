@@ -1,5 +1,7 @@
 // 11: each received message with its send. Within a process the file's order is the order of its states, so a second send or receive is one that an
 // earlier state of the same process made already.
+#![tactic(auto)]
+
 ghost use Rattle.std.specs.Prelude.{◌≡◌, ◌≤◌, ◌<◌, length};
 ghost use Rattle.model.specs.Run.{into, IsState};
 ghost use Rattle.record.specs.Record.{head_of};

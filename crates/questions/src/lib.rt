@@ -1,4 +1,6 @@
 // The questions about a given cut, over raw bytes. Each judges the whole run first, then the condition, and only then looks at the cut.
+#![tactic(auto)]
+
 pub mod consistency;
 pub mod listing;
 pub mod messages;
@@ -6,7 +8,7 @@ pub mod satisfaction;
 
 use record::Refusal;
 
-#[derive(Drop)]
+#[derive(Clone, Copy)]
 pub enum Verdict {
     Yes,
     No,
@@ -14,7 +16,7 @@ pub enum Verdict {
 }
 
 // What is in transit on a channel: nothing, or so many messages with the lowest of their stamps.
-#[derive(Drop)]
+#[derive(Clone, Copy)]
 pub enum Count {
     Empty,
     Messages(usize, i32),
@@ -22,7 +24,7 @@ pub enum Count {
 }
 
 // Whether the number of messages on each channel, and the lowest of their stamps, stand in the lent places.
-#[derive(Drop)]
+#[derive(Clone, Copy)]
 pub enum Counts {
     Counted,
     Refused(Refusal),

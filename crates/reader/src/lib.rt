@@ -1,5 +1,7 @@
 // A reader of the run: the lent bytes together with a place. Each function is thin, and leaves the work to the reading step over bytes and a place
 // apart. `shown` gives the bytes of a refused record.
+#![tactic(auto)]
+
 pub mod shown;
 
 ghost use Rattle.std.specs.Prelude.{◌≡◌};
@@ -15,7 +17,7 @@ pub struct Reader<'a> {
 }
 
 // A part of one of the two files: from a place on, so many bytes.
-#[derive(Drop)]
+#[derive(Clone, Copy)]
 pub struct Part {
     pub file: File,
     pub place: usize,

@@ -1,18 +1,20 @@
 // Bytes to records: numbers, the layout, refusals, and the reading step. Nothing here needs the records that came before.
+#![tactic(auto)]
+
 pub mod bytes;
 pub mod layout;
 pub mod reading;
 pub mod reasons;
 
 // The file at fault.
-#[derive(Drop)]
+#[derive(Clone, Copy)]
 pub enum File {
     Run,
     Condition,
 }
 
 // Which file, the refusal's number, the byte place of the record, and whether that record stands after the end.
-#[derive(Drop)]
+#[derive(Clone, Copy)]
 pub struct Refusal {
     pub file: File,
     pub number: u16,
@@ -20,13 +22,13 @@ pub struct Refusal {
     pub after: bool,
 }
 
-#[derive(Drop)]
+#[derive(Clone, Copy)]
 pub struct Head {
     pub processes: u16,
     pub channels: u16,
 }
 
-#[derive(Drop)]
+#[derive(Clone, Copy)]
 pub struct ChannelFields {
     pub number: u16,
     pub from: u16,
@@ -34,7 +36,7 @@ pub struct ChannelFields {
 }
 
 // The fields of a state record as they stand there.
-#[derive(Drop)]
+#[derive(Clone, Copy)]
 pub struct StateFields {
     pub process: u16,
     pub event: u16,
@@ -43,7 +45,7 @@ pub struct StateFields {
     pub stamp: u32,
 }
 
-#[derive(Drop)]
+#[derive(Clone, Copy)]
 pub enum Record {
     Head(Head),
     Channel(ChannelFields),
@@ -52,7 +54,7 @@ pub enum Record {
 }
 
 // A record of a run with the place after it, or else the refusal.
-#[derive(Drop)]
+#[derive(Clone, Copy)]
 pub enum Step {
     Got(Record, usize),
     Refused(Refusal),

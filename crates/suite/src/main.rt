@@ -1,4 +1,6 @@
 // Reads questions from standard input until it ends, and prints the answer to each.
+#![tactic(auto)]
+
 use crate::input::{Case, Next, next_case, read_numbers, read_part};
 
 mod input;

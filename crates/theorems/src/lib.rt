@@ -3,3 +3,4 @@
 // says of cuts by clocks and by messages, `proofs/Numbers.antt` that the numbers of `specs/Numbers.antt` are those of the bytes,
 // `proofs/Determined.antt` that each contract allows one answer, `proofs/Different.antt` that two answers never have the same lines, `proofs/Enough.antt`
 // how long they can be, `proofs/Marked.antt` the marked cases.
+#![tactic(auto)]

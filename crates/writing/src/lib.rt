@@ -1,4 +1,6 @@
 // Bytes put into a buffer from its byte `at` on, as far as it reaches. Where they end is told in any case.
+#![tactic(auto)]
+
 ghost use Rattle.std.specs.Prelude.{◌+◌, min, ◌≡◌, set};
 ghost use Rattle.writing.specs.Text.{decimal, pair_line, row_lines, signed as Lines·signed, spaced as Lines·spaced};
 ghost use Rattle.writing.specs.Stored.{Put, last};
