@@ -3,7 +3,7 @@ use Rattle.std.specs.Prelude.{◌≡◌, ◌≢◌, List, ℕ, ◌≤◌, ◌<�
 use Rattle.model.specs.Clause.{Satisfies, First}
 use Rattle.record.specs.Record.{head_of}
 use Rattle.record.specs.Refusal.{number, refusal}
-use Rattle.record.specs.Refusal.Reason.{noRoom}
+use Rattle.record.specs.Refusal.Reason.{no_room}
 use Rattle.record.specs.declared.File.TheVariants.{Run}
 use Rattle.record.specs.declared.Refusal.{Refusal}
 use Rattle.run.specs.Said.{run_in}
@@ -26,7 +26,7 @@ pub record Both (s c : List ℕ) : Type 0 where
 pub data Answered (s c lent lent' : List ℕ) : Answer → Type 0 where
   run_refused : (x : Refusal) → Judged s (R.Refused x) → lent' ≡ lent → Answered s c lent lent' (A.Refused x)
   cond_refused : (x : Refusal) → RunAccepted s → read_of c (head_of s) ≡ refused x → lent' ≡ lent → Answered s c lent lent' (A.Refused x)
-  few : Both s c → length lent < (head_of s).processes → lent' ≡ lent → Answered s c lent lent' (A.Refused (refusal Run (number noRoom) 0))
+  few : Both s c → length lent < (head_of s).processes → lent' ≡ lent → Answered s c lent lent' (A.Refused (refusal Run (number no_room) 0))
   none : Both s c → (head_of s).processes ≤ length lent → ((d : List ℕ) → ¬ Satisfies (run_in s) (clauses_in c (head_of s)) d) → lent' ≡ lent → Answered s c lent lent' A.None
   found : Both s c → (head_of s).processes ≤ length lent → (cut : List ℕ) → First (run_in s) (clauses_in c (head_of s)) cut → Wrote cut lent lent'
       → Answered s c lent lent' A.Found
@@ -35,7 +35,7 @@ pub data Answered (s c lent lent' : List ℕ) : Answer → Type 0 where
 -- changes. Only found writes into them, how many messages are on each channel at the first cut and the lowest of their stamps
 pub data AnsweredListed (s c lent lent' counts counts' : List ℕ) (stamps stamps' : List ℤ) : Answer → Type 0 where
   few_row : Both s c → ¬ Room (head_of s).channels counts stamps → lent' ≡ lent → counts' ≡ counts → stamps' ≡ stamps
-      → AnsweredListed s c lent lent' counts counts' stamps stamps' (A.Refused (refusal Run (number noRoom) 0))
+      → AnsweredListed s c lent lent' counts counts' stamps stamps' (A.Refused (refusal Run (number no_room) 0))
   unlisted : (a : Answer) → a ≢ A.Found → (Both s c → Room (head_of s).channels counts stamps) → Answered s c lent lent' a → counts' ≡ counts → stamps' ≡ stamps
       → AnsweredListed s c lent lent' counts counts' stamps stamps' a
   listed : Room (head_of s).channels counts stamps → Answered s c lent lent' A.Found → (cut : List ℕ) → First (run_in s) (clauses_in c (head_of s)) cut → Wrote (on_each (run_in s) cut) counts counts'

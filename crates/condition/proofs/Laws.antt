@@ -12,7 +12,7 @@ use Rattle.model.proofs.Numbers.{never, positive}
 use Rattle.model.specs.Clause.{mover}
 use Rattle.record.specs.Bytes.{u16_at}
 use Rattle.record.specs.Refusal.{refusal}
-use Rattle.record.specs.Refusal.Reason.{wrongLength, wrongKind, limit, name, field, notLinear}
+use Rattle.record.specs.Refusal.Reason.{wrong_length, wrong_kind, limit, name, field, not_linear}
 use Rattle.record.specs.Record.{length_at, kind_at, frame_no}
 use Rattle.record.specs.declared.Head.{Head}
 use Rattle.record.specs.declared.File.TheVariants.{Condition}
@@ -32,7 +32,7 @@ use Rattle.condition.specs.Known.{Whole, LocalKnown, TestKnown, ClauseKnown}
 
 pub step_stop : (s : List ℕ) (at owed : ℕ) → (frame_no s at ≡ 0 → ⊥) → step_no s at owed ≡ frame_no s at
 unfolding step_no
-step_stop s at owed h = rw (or_if_stop (frame_no s at) _ wrongKind h) (or_if_stop (frame_no s at) _ wrongLength h)
+step_stop s at owed h = rw (or_if_stop (frame_no s at) _ wrong_kind h) (or_if_stop (frame_no s at) _ wrong_length h)
 
 pub record ItemOpened (s : List ℕ) (at owed : ℕ) : Type 0 where
   pub frame : Framed s at
@@ -42,8 +42,8 @@ pub record ItemOpened (s : List ℕ) (at owed : ℕ) : Type 0 where
 pub item_opened : (s : List ℕ) (at owed : ℕ) → step_no s at owed ≡ 0 → ItemOpened s at owed
 unfolding step_no
 item_opened s at owed h =
-    let a = or_if_ok _ _ wrongLength h in
-    let b = or_if_ok _ _ wrongKind a.0 in
+    let a = or_if_ok _ _ wrong_length h in
+    let b = or_if_ok _ _ wrong_kind a.0 in
     record { frame = framed s at b.0; kind = not-false _ b.1; size = eqb-true _ _ (not-false _ a.1) }
 
 -- by where it stands: the head first, then the clauses that are owed, then the end
@@ -138,7 +138,7 @@ moves n x e l = seven n l (λ z. nobody 8 z refl) (λ z. nobody 9 z refl)
 pub test_known : (h : Head) (t : Test) → test_no h t ≡ 0 → TestKnown h t
 unfolding test_no
 test_known h t e =
-    let a = or_if_ok _ _ notLinear e in
+    let a = or_if_ok _ _ not_linear e in
     let b = or_if_ok _ _ field a.0 in
     let d = or_if_ok _ _ field b.0 in
     let f = or_if_ok _ _ name d.0 in

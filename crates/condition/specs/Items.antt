@@ -3,7 +3,7 @@ use Rattle.std.specs.Prelude.{Bool, not, cond, ◌||◌, List, ℕ, ◌+◌, eqb
 use Rattle.record.specs.Bytes.{u16_at}
 use Rattle.record.specs.Record.{length_at, kind_at, frame_no}
 use Rattle.record.specs.Refusal.{number, or_if, refusal}
-use Rattle.record.specs.Refusal.Reason.{wrongLength, wrongKind}
+use Rattle.record.specs.Refusal.Reason.{wrong_length, wrong_kind}
 use Rattle.record.specs.declared.File.TheVariants.{Condition}
 use Rattle.condition.specs.declared.Item.{Item}
 use Rattle.condition.specs.declared.Item.TheVariants as I
@@ -22,8 +22,8 @@ length_of kind = cond (eqb kind 4) 4 (cond (eqb kind 16) 6 (cond (eqb kind 17) 1
 unfoldable pub step_no : List ℕ → ℕ → ℕ → ℕ
 step_no s at owed =
     or_if (or_if (frame_no s at)
-    (not (due at owed (kind_at s at))) (number wrongKind))
-    (not (eqb (length_at s at) (length_of (kind_at s at)))) (number wrongLength)
+    (not (due at owed (kind_at s at))) (number wrong_kind))
+    (not (eqb (length_at s at) (length_of (kind_at s at)))) (number wrong_length)
 
 unfoldable pub item_at : List ℕ → ℕ → Item
 item_at s at =

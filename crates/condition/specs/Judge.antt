@@ -5,7 +5,7 @@ use Rattle.model.specs.declared.Mover.TheVariants.{Sender, Receiver, NotLinear}
 use Rattle.model.specs.Clause.{mover}
 use Rattle.record.specs.Layout.{value_count}
 use Rattle.record.specs.Refusal.{number, or_if}
-use Rattle.record.specs.Refusal.Reason.{limit, name, field, notLinear}
+use Rattle.record.specs.Refusal.Reason.{limit, name, field, not_linear}
 use Rattle.record.specs.declared.Head.{Head}
 use Rattle.condition.specs.declared.Local.{Local}
 use Rattle.condition.specs.declared.Test.{Test}
@@ -41,7 +41,7 @@ test_no h t =
     (leb h.channels t.channel) (number name))
     (eqb t.test 0) (number field))
     (ltb 9 t.test) (number field))
-    (not (may_move (mover (test_of t.test t.operand) 0))) (number notLinear)
+    (not (may_move (mover (test_of t.test t.operand) 0))) (number not_linear)
 
 abbrev pub clause_no : Head → Clause → ℕ
 clause_no h (C.Local l) = local_no h l

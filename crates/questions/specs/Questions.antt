@@ -5,7 +5,7 @@ use Rattle.model.specs.Clause.{Satisfies}
 use Rattle.model.specs.LowestStamp.{LowestStamp}
 use Rattle.record.specs.Record.{head_of}
 use Rattle.record.specs.Refusal.{number, refusal}
-use Rattle.record.specs.Refusal.Reason.{noRoom, wrongCut, noChannel}
+use Rattle.record.specs.Refusal.Reason.{no_room, wrong_cut, no_channel}
 use Rattle.record.specs.declared.File.TheVariants.{Run}
 use Rattle.record.specs.declared.Refusal.{Refusal}
 use Rattle.run.specs.declared.RunReading.TheVariants as R
@@ -26,14 +26,14 @@ use Rattle.questions.specs.declared.Verdict.TheVariants as A
 module _ (s cut : List ℕ) where
   pub data AskedConsistent : Verdict → Type 0 where
     run_refused : (x : Refusal) → Judged s (R.Refused x) → AskedConsistent (A.Refused x)
-    not_cut : RunAccepted s → ¬ IsCut (run_in s) cut → AskedConsistent (A.Refused (refusal Run (number wrongCut) 0))
+    not_cut : RunAccepted s → ¬ IsCut (run_in s) cut → AskedConsistent (A.Refused (refusal Run (number wrong_cut) 0))
     yes : RunAccepted s → IsCut (run_in s) cut → Consistent (run_in s) cut → AskedConsistent A.Yes
     no : RunAccepted s → IsCut (run_in s) cut → ¬ Consistent (run_in s) cut → AskedConsistent A.No
 
   pub data AskedMessages (channel : ℕ) : Count → Type 0 where
     run_refused : (x : Refusal) → Judged s (R.Refused x) → AskedMessages channel (C.Refused x)
-    not_cut : RunAccepted s → ¬ IsCut (run_in s) cut → AskedMessages channel (C.Refused (refusal Run (number wrongCut) 0))
-    no_such_channel : RunAccepted s → IsCut (run_in s) cut → (head_of s).channels ≤ channel → AskedMessages channel (C.Refused (refusal Run (number noChannel) 0))
+    not_cut : RunAccepted s → ¬ IsCut (run_in s) cut → AskedMessages channel (C.Refused (refusal Run (number wrong_cut) 0))
+    no_such_channel : RunAccepted s → IsCut (run_in s) cut → (head_of s).channels ≤ channel → AskedMessages channel (C.Refused (refusal Run (number no_channel) 0))
     empty : RunAccepted s → IsCut (run_in s) cut → channel < (head_of s).channels → in_transit (run_in s) cut channel ≡ [] → AskedMessages channel C.Empty
     messages : RunAccepted s → IsCut (run_in s) cut → channel < (head_of s).channels → (x : ℤ) → LowestStamp (in_transit (run_in s) cut channel) x
         → AskedMessages channel (C.Messages (length (in_transit (run_in s) cut channel)) x)
@@ -41,15 +41,15 @@ module _ (s cut : List ℕ) where
 pub data AskedSatisfies (s c cut : List ℕ) : Verdict → Type 0 where
   run_refused : (x : Refusal) → Judged s (R.Refused x) → AskedSatisfies s c cut (A.Refused x)
   condition_refused : (x : Refusal) → RunAccepted s → read_of c (head_of s) ≡ refused x → AskedSatisfies s c cut (A.Refused x)
-  not_cut : RunAccepted s → ConditionAccepted s c → ¬ IsCut (run_in s) cut → AskedSatisfies s c cut (A.Refused (refusal Run (number wrongCut) 0))
+  not_cut : RunAccepted s → ConditionAccepted s c → ¬ IsCut (run_in s) cut → AskedSatisfies s c cut (A.Refused (refusal Run (number wrong_cut) 0))
   yes : RunAccepted s → ConditionAccepted s c → Satisfies (run_in s) (clauses_in c (head_of s)) cut → AskedSatisfies s c cut A.Yes
   no : RunAccepted s → ConditionAccepted s c → IsCut (run_in s) cut → ¬ Satisfies (run_in s) (clauses_in c (head_of s)) cut → AskedSatisfies s c cut A.No
 
 -- 15: a place for each channel is to be lent in both rows
 pub data AskedEach (s cut counts counts' : List ℕ) (stamps stamps' : List ℤ) : Counts → Type 0 where
   run_refused : (x : Refusal) → Judged s (R.Refused x) → counts' ≡ counts → stamps' ≡ stamps → AskedEach s cut counts counts' stamps stamps' (N.Refused x)
-  not_cut : RunAccepted s → ¬ IsCut (run_in s) cut → counts' ≡ counts → stamps' ≡ stamps → AskedEach s cut counts counts' stamps stamps' (N.Refused (refusal Run (number wrongCut) 0))
+  not_cut : RunAccepted s → ¬ IsCut (run_in s) cut → counts' ≡ counts → stamps' ≡ stamps → AskedEach s cut counts counts' stamps stamps' (N.Refused (refusal Run (number wrong_cut) 0))
   few : RunAccepted s → IsCut (run_in s) cut → ¬ Room (head_of s).channels counts stamps → counts' ≡ counts → stamps' ≡ stamps
-      → AskedEach s cut counts counts' stamps stamps' (N.Refused (refusal Run (number noRoom) 0))
+      → AskedEach s cut counts counts' stamps stamps' (N.Refused (refusal Run (number no_room) 0))
   listed : RunAccepted s → IsCut (run_in s) cut → Room (head_of s).channels counts stamps → Wrote (on_each (run_in s) cut) counts counts'
       → WroteLowest (run_in s) cut (head_of s).channels stamps stamps' → AskedEach s cut counts counts' stamps stamps' N.Counted

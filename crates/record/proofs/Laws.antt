@@ -9,8 +9,8 @@ use lib.Dec.{eqb, ltb}
 use lib.ListN.{length}
 use Rattle.record.specs.Inner.{states_place}
 use Rattle.record.specs.Refusal.{Reason, number, or_if, or_else}
-use Rattle.record.specs.Refusal.Reason.{tooLong, cutShort, wrongLength, wrongKind, limit, format, name, field, start}
-use Rattle.record.specs.Refusal.Reason.{side, pairing, circle, clock, notLinear, noRoom, wrongCut, noChannel}
+use Rattle.record.specs.Refusal.Reason.{too_long, cut_short, wrong_length, wrong_kind, limit, format, name, field, start}
+use Rattle.record.specs.Refusal.Reason.{side, pairing, circle, clock, not_linear, no_room, wrong_cut, no_channel}
 use Rattle.record.specs.declared.Record.{Record}
 use Rattle.record.specs.declared.Record.TheVariants as R
 use Rattle.record.specs.Record.{length_at, kind_at, length_of, frame_no, head_of, due, opening_no, step_no, channel_fields_at, state_fields_at, record_at}
@@ -28,10 +28,10 @@ or_else_stop r n h = simp (ne_eqb r 0 h)
 
 -- no reason has number 0
 some_number : (n : Reason) → number n ≡ 0 → ⊥
-some_number tooLong e = omega arith
-some_number cutShort e = omega arith
-some_number wrongLength e = omega arith
-some_number wrongKind e = omega arith
+some_number too_long e = omega arith
+some_number cut_short e = omega arith
+some_number wrong_length e = omega arith
+some_number wrong_kind e = omega arith
 some_number limit e = omega arith
 some_number format e = omega arith
 some_number name e = omega arith
@@ -41,10 +41,10 @@ some_number side e = omega arith
 some_number pairing e = omega arith
 some_number circle e = omega arith
 some_number clock e = omega arith
-some_number notLinear e = omega arith
-some_number noRoom e = omega arith
-some_number wrongCut e = omega arith
-some_number noChannel e = omega arith
+some_number not_linear e = omega arith
+some_number no_room e = omega arith
+some_number wrong_cut e = omega arith
+some_number no_channel e = omega arith
 
 -- a chain that ends in 0 failed no test
 pub or_if_ok : (r : ℕ) (t : Bool) (n : Reason) → or_if r t (number n) ≡ 0 → (r ≡ 0) × (t ≡ false)
@@ -73,9 +73,9 @@ pub record Framed (s : List ℕ) (at : ℕ) : Type 0 where
 pub framed : (s : List ℕ) (at : ℕ) → frame_no s at ≡ 0 → Framed s at
 unfolding frame_no
 framed s at h =
-    let a = or_if_ok _ _ cutShort h in
-    let b = or_if_ok _ _ wrongLength a.0 in
-    let d = or_if_ok _ _ cutShort b.0 in
+    let a = or_if_ok _ _ cut_short h in
+    let b = or_if_ok _ _ wrong_length a.0 in
+    let d = or_if_ok _ _ cut_short b.0 in
     let x : 2 ≤ length s - at = ltb-false _ _ d.1 in
     let y : length_at s at ≤ length s - at = ltb-false _ _ a.1 in
     let z : 4 ≤ length_at s at = ltb-false _ _ b.1 in
@@ -93,7 +93,7 @@ frame_rest s at h = simp (le-ltb _ _ h)
 
 pub opening_stop : (s : List ℕ) (at : ℕ) → (frame_no s at ≡ 0 → ⊥) → opening_no s at ≡ frame_no s at
 unfolding opening_no
-opening_stop s at h = rw (or_if_stop (frame_no s at) _ wrongKind h) (or_if_stop (frame_no s at) _ wrongLength h)
+opening_stop s at h = rw (or_if_stop (frame_no s at) _ wrong_kind h) (or_if_stop (frame_no s at) _ wrong_length h)
 
 pub step_stop : (s : List ℕ) (at : ℕ) → (opening_no s at ≡ 0 → ⊥) → step_no s at ≡ opening_no s at
 unfolding step_no
@@ -107,8 +107,8 @@ pub record Opened (s : List ℕ) (at : ℕ) : Type 0 where
 pub opened : (s : List ℕ) (at : ℕ) → opening_no s at ≡ 0 → Opened s at
 unfolding opening_no
 opened s at h =
-    let a = or_if_ok _ _ wrongLength h in
-    let b = or_if_ok _ _ wrongKind a.0 in
+    let a = or_if_ok _ _ wrong_length h in
+    let b = or_if_ok _ _ wrong_kind a.0 in
     record { frame = framed s at b.0; kind = not-false _ b.1; size = eqb-true _ _ (not-false _ a.1) }
 
 -- and so a kind's record is there to its end

@@ -11,7 +11,7 @@ use lib.ListN.{length}
 use Rattle.model.proofs.Numbers.{never}
 use Rattle.model.proofs.Lists.{le_or_lt}
 use Rattle.record.specs.Refusal.{number, refusal}
-use Rattle.record.specs.Refusal.Reason.{tooLong, wrongKind}
+use Rattle.record.specs.Refusal.Reason.{too_long, wrong_kind}
 use Rattle.record.specs.declared.File.{File}
 use Rattle.record.specs.declared.Refusal.{Refusal}
 use Rattle.record.specs.Pass.{Read, Pass, ended, read_from, read_file}
@@ -25,8 +25,8 @@ unfolding ended
 by_end P file s next more none = go (ltb next (length s)) refl
   where
     go : (t : Bool) → ltb next (length s) ≡ t
-        → P (λ qs. cond t (refused (record { file = file; number = number wrongKind; place = next; after = true })) (accepted qs))
-    go true e = more (record { file = file; number = number wrongKind; place = next; after = true })
+        → P (λ qs. cond t (refused (record { file = file; number = number wrong_kind; place = next; after = true })) (accepted qs))
+    go true e = more (record { file = file; number = number wrong_kind; place = next; after = true })
     go false e = none (ltb-false _ _ e)
 
 module _ {Item Known : Type 0} (p : Pass Item Known) where
@@ -52,7 +52,7 @@ module _ {Item Known : Type 0} (p : Pass Item Known) where
 
   -- ---- the length of the file
 
-  pub read_long : 65535 < length p.bytes → read_file p ≡ refused (refusal p.file (number tooLong) 0)
+  pub read_long : 65535 < length p.bytes → read_file p ≡ refused (refusal p.file (number too_long) 0)
   unfolding read_file
   read_long h = simp (lt-ltb _ _ h)
 

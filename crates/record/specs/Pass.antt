@@ -4,7 +4,7 @@ use Rattle.std.proofs.Common.{⊎_elim}
 use Rattle.record.specs.declared.File.{File}
 use Rattle.record.specs.declared.Refusal.{Refusal}
 use Rattle.record.specs.Refusal.{number, refusal}
-use Rattle.record.specs.Refusal.Reason.{tooLong, wrongKind}
+use Rattle.record.specs.Refusal.Reason.{too_long, wrong_kind}
 
 -- what a pass gives: the first refusal, or the places in file order
 pub data Read : Type 0 where
@@ -30,7 +30,7 @@ pub record Pass (Item Known : Type 0) : Type 0 where
 
 -- nothing follows an end
 unfoldable pub ended : File → List ℕ → ℕ → List ℕ → Read
-ended f s next qs = cond (ltb next (length s)) (refused (record { file = f; number = number wrongKind; place = next; after = true })) (accepted qs)
+ended f s next qs = cond (ltb next (length s)) (refused (record { file = f; number = number wrong_kind; place = next; after = true })) (accepted qs)
 
 module _ {Item Known : Type 0} (p : Pass Item Known) where
   -- from a place on; the first number bounds the records left
@@ -44,4 +44,4 @@ module _ {Item Known : Type 0} (p : Pass Item Known) where
 
   -- the whole file
   unfoldable pub read_file : Read
-  read_file = cond (ltb 65535 (length p.bytes)) (refused (refusal p.file (number tooLong) 0)) (read_from (suc (length p.bytes)) 0 p.start)
+  read_file = cond (ltb 65535 (length p.bytes)) (refused (refusal p.file (number too_long) 0)) (read_from (suc (length p.bytes)) 0 p.start)

@@ -11,7 +11,7 @@ use Rattle.record.specs.declared.Step.TheVariants.{Got, Refused}
 use Rattle.record.specs.Bytes.{u16_at, u32_at}
 use Rattle.record.specs.Layout.{head_length, channel_length, channel_place, state_length}
 use Rattle.record.specs.Refusal.{number, or_if, refusal}
-use Rattle.record.specs.Refusal.Reason.{cutShort, wrongLength, wrongKind, format}
+use Rattle.record.specs.Refusal.Reason.{cut_short, wrong_length, wrong_kind, format}
 
 -- a record begins with its length and its kind
 abbrev pub length_at : List ℕ → ℕ → ℕ
@@ -28,9 +28,9 @@ length_of kind h = cond (eqb kind 1) head_length (cond (eqb kind 2) channel_leng
 unfoldable pub frame_no : List ℕ → ℕ → ℕ
 frame_no s at =
     or_if (or_if (or_if 0
-    (ltb (length s - at) 2) (number cutShort))
-    (ltb (length_at s at) 4) (number wrongLength))
-    (ltb (length s - at) (length_at s at)) (number cutShort)
+    (ltb (length s - at) 2) (number cut_short))
+    (ltb (length_at s at) 4) (number wrong_length))
+    (ltb (length s - at) (length_at s at)) (number cut_short)
 
 -- what the head says, which stands first in a run; zeros where it isn't there
 unfoldable pub head_of : List ℕ → Head
@@ -43,8 +43,8 @@ due h at kind = cond (eqb at 0) (eqb kind 1) (cond (ltb at (channel_place h.chan
 unfoldable pub opening_no : List ℕ → ℕ → ℕ
 opening_no s at =
     or_if (or_if (frame_no s at)
-    (not (due (head_of s) at (kind_at s at))) (number wrongKind))
-    (not (eqb (length_at s at) (length_of (kind_at s at) (head_of s)))) (number wrongLength)
+    (not (due (head_of s) at (kind_at s at))) (number wrong_kind))
+    (not (eqb (length_at s at) (length_of (kind_at s at) (head_of s)))) (number wrong_length)
 
 unfoldable pub step_no : List ℕ → ℕ → ℕ
 step_no s at = or_if (opening_no s at) (eqb (kind_at s at) 1 && not (eqb (u16_at s (at + 4)) 1)) (number format)

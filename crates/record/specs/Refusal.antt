@@ -4,14 +4,14 @@ use Rattle.record.specs.declared.File.{File}
 use Rattle.record.specs.declared.Refusal.{Refusal}
 
 pub data Reason : Type 0 where
-  tooLong cutShort wrongLength wrongKind limit format name field start side pairing circle clock notLinear noRoom wrongCut noChannel : Reason
+  too_long cut_short wrong_length wrong_kind limit format name field start side pairing circle clock not_linear no_room wrong_cut no_channel : Reason
 
 -- 18 isn't used again: older handbooks list it, and no file could give it
 abbrev pub number : Reason → ℕ
-number tooLong = 1
-number cutShort = 2
-number wrongLength = 3
-number wrongKind = 4
+number too_long = 1
+number cut_short = 2
+number wrong_length = 3
+number wrong_kind = 4
 number limit = 5
 number format = 6
 number name = 7
@@ -21,10 +21,10 @@ number side = 10
 number pairing = 11
 number circle = 12
 number clock = 13
-number notLinear = 14
-number noRoom = 15
-number wrongCut = 16
-number noChannel = 17
+number not_linear = 14
+number no_room = 15
+number wrong_cut = 16
+number no_channel = 17
 
 -- the number so far where it is a refusal, else n where the test says so; 0 is no refusal
 unfoldable pub or_if : ℕ → Bool → ℕ → ℕ

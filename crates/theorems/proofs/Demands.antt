@@ -19,7 +19,7 @@ use Rattle.model.proofs.Decide.{has_first}
 use Rattle.model.proofs.Past.{nothing_past}
 use Rattle.model.proofs.Lattice.{fewer_clauses, no_earlier}
 use Rattle.record.specs.Refusal.{or_if, number, refusal}
-use Rattle.record.specs.Refusal.Reason.{noRoom}
+use Rattle.record.specs.Refusal.Reason.{no_room}
 use Rattle.record.specs.Record.{head_of}
 use Rattle.record.specs.declared.File.TheVariants.{Run}
 use Rattle.record.specs.declared.Head.{Head}
@@ -63,7 +63,7 @@ module _ {s c lent lent' : List ℕ} where
   condition_refused_next v e w = (answered_one w (cond_refused _ v e refl)).0
 
   -- then 15.
-  pub no_room_last : {a : Answer} → Both s c → length lent < (head_of s).processes → Answered s c lent lent' a → a ≡ A.Refused (refusal Run (number noRoom) 0)
+  pub no_room_last : {a : Answer} → Both s c → length lent < (head_of s).processes → Answered s c lent lent' a → a ≡ A.Refused (refusal Run (number no_room) 0)
   no_room_last v h w = (answered_one w (few v h refl)).0
 
   only_found_writes : {a : Answer} → Answered s c lent lent' a → ¬ (a ≡ A.Found) → lent' ≡ lent

@@ -14,7 +14,7 @@ use Rattle.model.specs.Clause.{some_of, every_of}
 use Rattle.model.proofs.Lists.{le_or_lt, or_T, every_mem}
 use Rattle.model.proofs.Numbers.{never}
 use Rattle.record.specs.Refusal.{number, refusal}
-use Rattle.record.specs.Refusal.Reason.{wrongKind}
+use Rattle.record.specs.Refusal.Reason.{wrong_kind}
 use Rattle.record.specs.Pass.{Pass, ended, read_file}
 use Rattle.record.specs.Pass.Read.{refused, accepted}
 use Rattle.record.specs.Inner.{read_records}
@@ -105,7 +105,7 @@ module _ (f : File) (ns : List ℕ) (kind : Memᴰ 4 ns) where
   unfolding ended
   ended_of s next qs x e = go (ltb next (length s)) e
     where
-      go : (t : Bool) → cond t (refused (record { file = f; number = number wrongKind; place = next; after = true })) (accepted qs) ≡ refused x → RefusalOf f ns x
+      go : (t : Bool) → cond t (refused (record { file = f; number = number wrong_kind; place = next; after = true })) (accepted qs) ≡ refused x → RefusalOf f ns x
       go true e = subst (RefusalOf f ns) (refused_once refl e) (refusal_of f 4 next true kind)
       go false e = never (cc)
 

@@ -18,4 +18,4 @@ condition_numbers = 1 ∷ 2 ∷ 3 ∷ 4 ∷ 5 ∷ 7 ∷ 8 ∷ 14 ∷ []
 
 -- of the run with one of the first numbers, or of the condition with one of the others
 abbrev pub Gives : List ℕ → List ℕ → Refusal → Type 0
-Gives ofRun ofCondition x = RefusalOf Run ofRun x ⊎ RefusalOf Condition ofCondition x
+Gives of_run of_condition x = RefusalOf Run of_run x ⊎ RefusalOf Condition of_condition x
