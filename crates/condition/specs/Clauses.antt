@@ -2,7 +2,7 @@
 use Rattle.std.specs.Prelude.{cond, List, map, ℕ, ◌+◌, eqb}
 use Rattle.model.specs.Clause as M
 use Rattle.model.specs.Clause.Comparison.{equal, other, at_most, at_least}
-use Rattle.model.specs.Clause.Test.{countAtMost, countAtLeast, countIs, stampIs, noStampIs, everyAtLeast, someAtMost, count_odd, count_other}
+use Rattle.model.specs.Clause.Test.{count_at_most, count_at_least, count_is, stamp_is, no_stamp_is, every_at_least, some_at_most, count_odd, count_other}
 use Rattle.model.specs.Clause.Clause.{local, on}
 use Rattle.record.specs.Bytes.{u16_at, u32_at, i32_at, signed}
 use Rattle.record.specs.Record.{kind_at}
@@ -22,13 +22,13 @@ comparison_of n =
 -- tests 1 to 9: c is unsigned, x signed; a record with another number is never accepted
 unfoldable pub test_of : ℕ → ℕ → M.Test
 test_of n operand =
-    cond (eqb n 1) (countAtMost operand)
-    (cond (eqb n 2) (countAtLeast operand)
-    (cond (eqb n 3) (countIs operand)
-    (cond (eqb n 4) (stampIs (signed operand))
-    (cond (eqb n 5) (noStampIs (signed operand))
-    (cond (eqb n 6) (everyAtLeast (signed operand))
-    (cond (eqb n 7) (someAtMost (signed operand))
+    cond (eqb n 1) (count_at_most operand)
+    (cond (eqb n 2) (count_at_least operand)
+    (cond (eqb n 3) (count_is operand)
+    (cond (eqb n 4) (stamp_is (signed operand))
+    (cond (eqb n 5) (no_stamp_is (signed operand))
+    (cond (eqb n 6) (every_at_least (signed operand))
+    (cond (eqb n 7) (some_at_most (signed operand))
     (cond (eqb n 8) count_odd
     (cond (eqb n 9) (count_other operand)
     count_odd))))))))

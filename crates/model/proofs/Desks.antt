@@ -23,7 +23,7 @@ use Rattle.model.specs.Clause.{Test, passes, Clause, holds, Satisfies, First}
 use Rattle.model.specs.Linear.{Linear}
 use Rattle.model.specs.Clause.Clause.{local, on}
 use Rattle.model.specs.Clause.Comparison.{equal, other, at_most, at_least}
-use Rattle.model.specs.Clause.Test.{countAtMost, countAtLeast, countIs, stampIs, noStampIs, everyAtLeast, someAtMost, count_odd, count_other}
+use Rattle.model.specs.Clause.Test.{count_at_most, count_at_least, count_is, stamp_is, no_stamp_is, every_at_least, some_at_most, count_odd, count_other}
 use Rattle.model.proofs.Lists.{keep}
 use Rattle.model.proofs.Order.{clock_unique}
 use Rattle.model.proofs.Pairing.{view, one_send}
@@ -89,20 +89,20 @@ consistent_cuts = refl
 unfoldable pub table : List Example
 table =
     example [] (some (1 ∷ 1 ∷ []))
-    ∷ example (on 0 (countIs 1) ∷ []) (some (2 ∷ 1 ∷ []))
-    ∷ example (local 0 0 at_least (pos 1) ∷ on 0 (countAtMost 0) ∷ []) (some (2 ∷ 2 ∷ []))
+    ∷ example (on 0 (count_is 1) ∷ []) (some (2 ∷ 1 ∷ []))
+    ∷ example (local 0 0 at_least (pos 1) ∷ on 0 (count_at_most 0) ∷ []) (some (2 ∷ 2 ∷ []))
     ∷ example (local 1 0 equal (pos 1) ∷ []) (some (2 ∷ 3 ∷ []))
-    ∷ example (local 1 0 equal (pos 1) ∷ on 0 (countAtLeast 1) ∷ []) none
-    ∷ example (on 0 (everyAtLeast (pos 6)) ∷ []) (some (1 ∷ 1 ∷ []))
-    ∷ example (on 0 (someAtMost (pos 4)) ∷ []) none
-    ∷ example (on 0 (stampIs (pos 5)) ∷ []) (some (2 ∷ 1 ∷ []))
-    ∷ example (local 0 0 at_least (pos 1) ∷ on 0 (noStampIs (pos 5)) ∷ []) (some (2 ∷ 2 ∷ []))
-    ∷ example (local 0 0 at_least (pos 1) ∷ on 0 (noStampIs (pos 6)) ∷ []) (some (2 ∷ 1 ∷ []))
-    ∷ example (local 0 0 at_least (pos 1) ∷ on 0 (everyAtLeast (pos 6)) ∷ []) (some (2 ∷ 2 ∷ []))
-    ∷ example (local 0 0 at_least (pos 1) ∷ on 0 (everyAtLeast (negsuc 0)) ∷ []) (some (2 ∷ 1 ∷ []))
-    ∷ example (on 0 (someAtMost (pos 5)) ∷ []) (some (2 ∷ 1 ∷ []))
+    ∷ example (local 1 0 equal (pos 1) ∷ on 0 (count_at_least 1) ∷ []) none
+    ∷ example (on 0 (every_at_least (pos 6)) ∷ []) (some (1 ∷ 1 ∷ []))
+    ∷ example (on 0 (some_at_most (pos 4)) ∷ []) none
+    ∷ example (on 0 (stamp_is (pos 5)) ∷ []) (some (2 ∷ 1 ∷ []))
+    ∷ example (local 0 0 at_least (pos 1) ∷ on 0 (no_stamp_is (pos 5)) ∷ []) (some (2 ∷ 2 ∷ []))
+    ∷ example (local 0 0 at_least (pos 1) ∷ on 0 (no_stamp_is (pos 6)) ∷ []) (some (2 ∷ 1 ∷ []))
+    ∷ example (local 0 0 at_least (pos 1) ∷ on 0 (every_at_least (pos 6)) ∷ []) (some (2 ∷ 2 ∷ []))
+    ∷ example (local 0 0 at_least (pos 1) ∷ on 0 (every_at_least (negsuc 0)) ∷ []) (some (2 ∷ 1 ∷ []))
+    ∷ example (on 0 (some_at_most (pos 5)) ∷ []) (some (2 ∷ 1 ∷ []))
     ∷ example (local 1 0 other (pos 0) ∷ []) (some (2 ∷ 3 ∷ []))
-    ∷ example (local 0 0 at_most (pos 0) ∷ on 0 (countAtLeast 1) ∷ []) none
+    ∷ example (local 0 0 at_most (pos 0) ∷ on 0 (count_at_least 1) ∷ []) none
     ∷ example (local 0 1 at_least (pos 1) ∷ []) none
     ∷ []
 
@@ -272,9 +272,9 @@ twin_known = known_test twin tt
 
 pub twin_table : List Example
 twin_table =
-    example (on 1 (countAtLeast 1) ∷ []) (some (3 ∷ 1 ∷ []))
-    ∷ example (on 0 (countIs 1) ∷ on 1 (countIs 0) ∷ local 1 3 equal (pos 0) ∷ []) (some (2 ∷ 1 ∷ []))
-    ∷ example (on 0 (stampIs (pos 6)) ∷ []) none
+    example (on 1 (count_at_least 1) ∷ []) (some (3 ∷ 1 ∷ []))
+    ∷ example (on 0 (count_is 1) ∷ on 1 (count_is 0) ∷ local 1 3 equal (pos 0) ∷ []) (some (2 ∷ 1 ∷ []))
+    ∷ example (on 0 (stamp_is (pos 6)) ∷ []) none
     ∷ []
 
 pub twin_marked : (k : Example) → Memᴰ k twin_table → Answer twin k.clauses k.answer

@@ -10,7 +10,7 @@ use lib.IntN.{ℤ, pos, negsuc}
 use lib.Signed.{le_z, ≤ℤ_refl}
 use Rattle.model.specs.declared.Message.{Message}
 use Rattle.model.specs.Clause.{passes}
-use Rattle.model.specs.Clause.Test.{everyAtLeast, someAtMost}
+use Rattle.model.specs.Clause.Test.{every_at_least, some_at_most}
 use Rattle.model.specs.LowestStamp.{LowestStamp}
 use Rattle.model.proofs.Lists.{every_mem, mem_every, some_mem, mem_some}
 use Rattle.model.proofs.Numbers.{T_of, not_T_of}
@@ -98,12 +98,12 @@ same_test false true f g = absurd (g tt)
 same_test false false f g = refl
 
 module _ {ms : List Message} {x : ℤ} (w : LowestStamp ms x) (y : ℤ) where
-  pub every_by_lowest : passes (everyAtLeast y) ms ≡ le_z y x
-  every_by_lowest = same_test (passes (everyAtLeast y) ms) (le_z y x)
+  pub every_by_lowest : passes (every_at_least y) ms ≡ le_z y x
+  every_by_lowest = same_test (passes (every_at_least y) ms) (le_z y x)
       (λ t. let (m, there, e) = w.held in subst (λ z. T (le_z y z)) e (every_mem (λ m. le_z y m.stamp) t there))
       (λ t. mem_every (λ m. le_z y m.stamp) ms (λ m there. le_z_trans y x m.stamp t (w.least m there)))
 
-  pub some_by_lowest : passes (someAtMost y) ms ≡ le_z x y
-  some_by_lowest = same_test (passes (someAtMost y) ms) (le_z x y)
+  pub some_by_lowest : passes (some_at_most y) ms ≡ le_z x y
+  some_by_lowest = same_test (passes (some_at_most y) ms) (le_z x y)
       (λ t. let (m, there, u) = some_mem (λ m. le_z m.stamp y) ms t in le_z_trans x m.stamp y (w.least m there) u)
       (λ t. let (m, there, e) = w.held in mem_some (λ m. le_z m.stamp y) there (subst (λ z. T (le_z z y)) (sym e) t))

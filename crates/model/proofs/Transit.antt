@@ -20,7 +20,7 @@ use Rattle.model.specs.Cut.{sends, waiting, add, up_to, between}
 use Rattle.model.specs.Clause.{Test, passes, mover}
 use Rattle.model.specs.Linear.{linear}
 use Rattle.model.specs.Clause.Clause.{on}
-use Rattle.model.specs.Clause.Test.{countAtMost, countAtLeast, countIs, stampIs, noStampIs, everyAtLeast, someAtMost, count_odd, count_other}
+use Rattle.model.specs.Clause.Test.{count_at_most, count_at_least, count_is, stamp_is, no_stamp_is, every_at_least, some_at_most, count_odd, count_other}
 use Rattle.model.proofs.Lists.{eq→eqb, T-or, some_more, every_fewer, fewer_length}
 use Rattle.model.proofs.Messages.{arrived}
 
@@ -72,24 +72,24 @@ module _ (r : Run) where
 -- ---- the two parts of a test: what more messages keep true, and what fewer messages keep true
 
 pub rises : Test → List Message → Bool
-rises (countAtMost c) ms = true
-rises (countAtLeast c) ms = leb c (length ms)
-rises (countIs c) ms = leb c (length ms)
-rises (stampIs x) ms = passes (stampIs x) ms
-rises (noStampIs x) ms = true
-rises (everyAtLeast x) ms = true
-rises (someAtMost x) ms = passes (someAtMost x) ms
+rises (count_at_most c) ms = true
+rises (count_at_least c) ms = leb c (length ms)
+rises (count_is c) ms = leb c (length ms)
+rises (stamp_is x) ms = passes (stamp_is x) ms
+rises (no_stamp_is x) ms = true
+rises (every_at_least x) ms = true
+rises (some_at_most x) ms = passes (some_at_most x) ms
 rises count_odd ms = true
 rises (count_other c) ms = true
 
 pub falls : Test → List Message → Bool
-falls (countAtMost c) ms = leb (length ms) c
-falls (countAtLeast c) ms = true
-falls (countIs c) ms = leb (length ms) c
-falls (stampIs x) ms = true
-falls (noStampIs x) ms = passes (noStampIs x) ms
-falls (everyAtLeast x) ms = passes (everyAtLeast x) ms
-falls (someAtMost x) ms = true
+falls (count_at_most c) ms = leb (length ms) c
+falls (count_at_least c) ms = true
+falls (count_is c) ms = leb (length ms) c
+falls (stamp_is x) ms = true
+falls (no_stamp_is x) ms = passes (no_stamp_is x) ms
+falls (every_at_least x) ms = passes (every_at_least x) ms
+falls (some_at_most x) ms = true
 falls count_odd ms = true
 falls (count_other c) ms = true
 
@@ -100,16 +100,16 @@ LinearTest t = T (linear (on 0 t))
 -- a linear test is true exactly if both its parts are
 pub passes_parts : (t : Test) → LinearTest t → (ms : List Message) → T (passes t ms) ↔ (T (rises t ms) × T (falls t ms))
 unfolding rises falls
-passes_parts (countAtMost c) w ms = (λ u. (tt, u), λ u. u.1)
-passes_parts (countAtLeast c) w ms = (λ u. (u, tt), λ u. u.0)
-passes_parts (countIs c) w ms = (
+passes_parts (count_at_most c) w ms = (λ u. (tt, u), λ u. u.1)
+passes_parts (count_at_least c) w ms = (λ u. (u, tt), λ u. u.0)
+passes_parts (count_is c) w ms = (
   λ u. let e = eqb→eq (length ms) c u in (le→leb c (length ms) (omega arith), le→leb (length ms) c (omega arith)),
   λ u. eq→eqb (length ms) c (le_antisymm (leb→le (length ms) c u.1) (leb→le c (length ms) u.0)),
 )
-passes_parts (stampIs x) w ms = (λ u. (u, tt), λ u. u.0)
-passes_parts (noStampIs x) w ms = (λ u. (tt, u), λ u. u.1)
-passes_parts (everyAtLeast x) w ms = (λ u. (tt, u), λ u. u.1)
-passes_parts (someAtMost x) w ms = (λ u. (u, tt), λ u. u.0)
+passes_parts (stamp_is x) w ms = (λ u. (u, tt), λ u. u.0)
+passes_parts (no_stamp_is x) w ms = (λ u. (tt, u), λ u. u.1)
+passes_parts (every_at_least x) w ms = (λ u. (tt, u), λ u. u.1)
+passes_parts (some_at_most x) w ms = (λ u. (u, tt), λ u. u.0)
 passes_parts count_odd w ms = absurd w
 passes_parts (count_other c) w ms = absurd w
 
@@ -118,25 +118,25 @@ leb_mono {a} {b} {c} {d} h g t = le→leb c d (omega (arith, leb→le a b t))
 
 pub rises_more : (t : Test) {xs ys : List Message} → Sublistᴰ xs ys → T (rises t xs) → T (rises t ys)
 unfolding rises
-rises_more (countAtMost c) p u = tt
-rises_more (countAtLeast c) p u = leb_mono {a = c} {c = c} (omega arith) (fewer_length p) u
-rises_more (countIs c) p u = leb_mono {a = c} {c = c} (omega arith) (fewer_length p) u
-rises_more (stampIs x) p u = some_more _ p u
-rises_more (noStampIs x) p u = tt
-rises_more (everyAtLeast x) p u = tt
-rises_more (someAtMost x) p u = some_more _ p u
+rises_more (count_at_most c) p u = tt
+rises_more (count_at_least c) p u = leb_mono {a = c} {c = c} (omega arith) (fewer_length p) u
+rises_more (count_is c) p u = leb_mono {a = c} {c = c} (omega arith) (fewer_length p) u
+rises_more (stamp_is x) p u = some_more _ p u
+rises_more (no_stamp_is x) p u = tt
+rises_more (every_at_least x) p u = tt
+rises_more (some_at_most x) p u = some_more _ p u
 rises_more count_odd p u = tt
 rises_more (count_other c) p u = tt
 
 pub falls_fewer : (t : Test) {xs ys : List Message} → Sublistᴰ xs ys → T (falls t ys) → T (falls t xs)
 unfolding falls
-falls_fewer (countAtMost c) p u = leb_mono {b = c} {d = c} (fewer_length p) (omega arith) u
-falls_fewer (countAtLeast c) p u = tt
-falls_fewer (countIs c) p u = leb_mono {b = c} {d = c} (fewer_length p) (omega arith) u
-falls_fewer (stampIs x) p u = tt
-falls_fewer (noStampIs x) p u = every_fewer _ p u
-falls_fewer (everyAtLeast x) p u = every_fewer _ p u
-falls_fewer (someAtMost x) p u = tt
+falls_fewer (count_at_most c) p u = leb_mono {b = c} {d = c} (fewer_length p) (omega arith) u
+falls_fewer (count_at_least c) p u = tt
+falls_fewer (count_is c) p u = leb_mono {b = c} {d = c} (fewer_length p) (omega arith) u
+falls_fewer (stamp_is x) p u = tt
+falls_fewer (no_stamp_is x) p u = every_fewer _ p u
+falls_fewer (every_at_least x) p u = every_fewer _ p u
+falls_fewer (some_at_most x) p u = tt
 falls_fewer count_odd p u = tt
 falls_fewer (count_other c) p u = tt
 
@@ -151,17 +151,17 @@ part NotLinear t ms = false
 -- of a false test, the part of the one who has to move is false
 pub mover_part : (t : Test) (ms : List Message) → ¬ T (passes t ms) → ¬ T (part (mover t (length ms)) t ms)
 unfolding rises falls
-mover_part (countAtMost c) ms n = n
-mover_part (countAtLeast c) ms n = n
-mover_part (countIs c) ms n = go (ltb (length ms) c) refl
+mover_part (count_at_most c) ms n = n
+mover_part (count_at_least c) ms n = n
+mover_part (count_is c) ms n = go (ltb (length ms) c) refl
   where
-    go : (b : Bool) → ltb (length ms) c ≡ b → ¬ T (part (cond b Sender Receiver) (countIs c) ms)
+    go : (b : Bool) → ltb (length ms) c ≡ b → ¬ T (part (cond b Sender Receiver) (count_is c) ms)
     go true e t = absurd (omega (arith, ltb-true (length ms) c e, leb→le c (length ms) t))
     go false e t = n (eq→eqb (length ms) c (le_antisymm (leb→le (length ms) c t) (ltb-false (length ms) c e)))
-mover_part (stampIs x) ms n = n
-mover_part (noStampIs x) ms n = n
-mover_part (everyAtLeast x) ms n = n
-mover_part (someAtMost x) ms n = n
+mover_part (stamp_is x) ms n = n
+mover_part (no_stamp_is x) ms n = n
+mover_part (every_at_least x) ms n = n
+mover_part (some_at_most x) ms n = n
 mover_part count_odd ms n = λ t. t
 mover_part (count_other c) ms n = λ t. t
 

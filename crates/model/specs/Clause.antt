@@ -32,32 +32,32 @@ compares at_least v x = le_z x v
 
 -- channel tests 1 to 9: c is unsigned, x signed
 pub data Test : Type 0 where
-  countAtMost countAtLeast countIs : (c : ℕ) → Test
-  stampIs noStampIs everyAtLeast someAtMost : (x : ℤ) → Test
+  count_at_most count_at_least count_is : (c : ℕ) → Test
+  stamp_is no_stamp_is every_at_least some_at_most : (x : ℤ) → Test
   count_odd : Test
   count_other : (c : ℕ) → Test
 
 -- true when
 abbrev pub passes : Test → List Message → Bool
-passes (countAtMost c) ms = leb (length ms) c
-passes (countAtLeast c) ms = leb c (length ms)
-passes (countIs c) ms = eqb (length ms) c
-passes (stampIs x) ms = some_of (λ m. same_z m.stamp x) ms
-passes (noStampIs x) ms = every_of (λ m. not (same_z m.stamp x)) ms
-passes (everyAtLeast x) ms = every_of (λ m. le_z x m.stamp) ms
-passes (someAtMost x) ms = some_of (λ m. le_z m.stamp x) ms
+passes (count_at_most c) ms = leb (length ms) c
+passes (count_at_least c) ms = leb c (length ms)
+passes (count_is c) ms = eqb (length ms) c
+passes (stamp_is x) ms = some_of (λ m. same_z m.stamp x) ms
+passes (no_stamp_is x) ms = every_of (λ m. not (same_z m.stamp x)) ms
+passes (every_at_least x) ms = every_of (λ m. le_z x m.stamp) ms
+passes (some_at_most x) ms = some_of (λ m. le_z m.stamp x) ms
 passes count_odd ms = eqb (length ms % 2) 1
 passes (count_other c) ms = not (eqb (length ms) c)
 
 -- if false where n messages are in transit, who has to move
 abbrev pub mover : Test → ℕ → Mover
-mover (countAtMost c) n = Receiver
-mover (countAtLeast c) n = Sender
-mover (countIs c) n = cond (ltb n c) Sender Receiver
-mover (stampIs x) n = Sender
-mover (noStampIs x) n = Receiver
-mover (everyAtLeast x) n = Receiver
-mover (someAtMost x) n = Sender
+mover (count_at_most c) n = Receiver
+mover (count_at_least c) n = Sender
+mover (count_is c) n = cond (ltb n c) Sender Receiver
+mover (stamp_is x) n = Sender
+mover (no_stamp_is x) n = Receiver
+mover (every_at_least x) n = Receiver
+mover (some_at_most x) n = Sender
 mover count_odd n = NotLinear
 mover (count_other c) n = NotLinear
 

@@ -64,9 +64,9 @@ module _ (s : List ℕ) (read : read_of s ≡ accepted (states_of s)) where
   unfolding run_in
   process_of w = run_process s qs w
 
-  pub count_is : (p : ℕ) → p < (head_of s).processes → count (run_in s) p ≡ length (places_of s qs p)
+  pub count-is : (p : ℕ) → p < (head_of s).processes → count (run_in s) p ≡ length (places_of s qs p)
   unfolding run_in
-  count_is p h = run_count s qs p h
+  count-is p h = run_count s qs p h
 
   place_listed : (p k : ℕ) → get_or (places_of s qs p) k 0 ≡ place_of s p (suc k)
   place_listed p k = ap (λ n. get_or (places_of s qs p) n 0) (omega arith)
@@ -85,7 +85,7 @@ module _ (s : List ℕ) (read : read_of s ≡ accepted (states_of s)) where
   state_is p zero w = absurd (omega (arith, w.counted))
   state_is p (suc k) w =
       let h = process_of w in
-      run_state s qs p k h (omega (arith, w.there, count_is p h)) ∙ ap (state_at s) (place_listed p k)
+      run_state s qs p k h (omega (arith, w.there, count-is p h)) ∙ ap (state_at s) (place_listed p k)
 
   pub event_is : (p k : ℕ) → IsState (run_in s) p k → into (run_in s) p k ≡ event_of (state_fields_at s (place_of s p k))
   unfolding run_in
@@ -120,7 +120,7 @@ module _ (s : List ℕ) (read : read_of s ≡ accepted (states_of s)) where
   place_rises p zero k' w w' h = absurd (omega (arith, w.counted))
   place_rises p (suc k) zero w w' h = absurd (omega arith)
   place_rises p (suc k) (suc k') w w' h =
-      let l : k' < length (places_of s qs p) = omega (arith, w'.there, count_is p (process_of w)) in
+      let l : k' < length (places_of s qs p) = omega (arith, w'.there, count-is p (process_of w)) in
       omega (arith, place_listed p k, place_listed p k', rise p k k' (omega arith) l)
 
 -- ---- by the index
@@ -130,12 +130,12 @@ module _ (s ix : List ℕ) (w : Listed s ix) where
   listed_eight p h = omega (arith, (ok s w.read).head.few)
 
   pub listed_few : (p : ℕ) → p < (head_of s).processes → count (run_in s) p ≤ 512
-  listed_few p h = omega (arith, w.index.few p (listed_eight p h), count_is s w.read p h)
+  listed_few p h = omega (arith, w.index.few p (listed_eight p h), count-is s w.read p h)
 
   pub listed_count : (p : ℕ) → p < (head_of s).processes → get_or ix p 0 ≡ count (run_in s) p
   listed_count p h =
       let l = listed_eight p h in
-      sym (get_or-take 8 ix p 0 l) ∙ ap (λ l. get_or l p 0) w.index.counted ∙ counts_at s (states_of s) p l ∙ sym (count_is s w.read p h)
+      sym (get_or-take 8 ix p 0 l) ∙ ap (λ l. get_or l p 0) w.index.counted ∙ counts_at s (states_of s) p l ∙ sym (count-is s w.read p h)
 
   -- a state has entries
   pub listed_slot : {p k : ℕ} → IsState (run_in s) p k → HasSlot p k
@@ -146,7 +146,7 @@ module _ (s ix : List ℕ) (w : Listed s ix) where
   pub listed_at : (p k : ℕ) → IsState (run_in s) p k → get_or ix (place_listed p k) 0 ≡ place_of s p k
   listed_at p k t =
       let h = process_of s w.read t in
-      w.index.placed p (k - 1) (listed_eight p h) (omega (arith, t.there, t.counted, count_is s w.read p h))
+      w.index.placed p (k - 1) (listed_eight p h) (omega (arith, t.there, t.counted, count-is s w.read p h))
 
   -- the record at a state's place is whole, and says the event
   pub listed_whole : (p k : ℕ) → IsState (run_in s) p k → get_or ix (place_listed p k) 0 + state_length (head_of s) ≤ length s

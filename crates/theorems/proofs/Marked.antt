@@ -16,7 +16,7 @@ use Rattle.model.specs.LowestStamp.{LowestStamp}
 use Rattle.model.proofs.LowestStamp.{lowest_first}
 use Rattle.model.specs.Clause.Clause.{local, on}
 use Rattle.model.specs.Clause.Comparison.{equal, at_least}
-use Rattle.model.specs.Clause.Test.{countAtMost, countAtLeast, countIs, everyAtLeast, someAtMost}
+use Rattle.model.specs.Clause.Test.{count_at_most, count_at_least, count_is, every_at_least, some_at_most}
 use Rattle.model.proofs.Decide.{consistent?, cut?, cut_iff, message_iff}
 use Rattle.model.proofs.Order.{consistent_by_message}
 use Rattle.model.proofs.Desks as M
@@ -227,12 +227,12 @@ abbrev Reads : List ℕ → List Clause → Type 0
 Reads c ks = ConditionAccepted (desks 1) c × (clauses_for (desks 1) c ≡ ks)
 
 conditions : Reads condition_2 []
-    × Reads condition_3 (on 0 (countIs 1) ∷ [])
-    × Reads condition_4 (local 0 0 at_least (pos 1) ∷ on 0 (countAtMost 0) ∷ [])
+    × Reads condition_3 (on 0 (count_is 1) ∷ [])
+    × Reads condition_4 (local 0 0 at_least (pos 1) ∷ on 0 (count_at_most 0) ∷ [])
     × Reads condition_5 (local 1 0 equal (pos 1) ∷ [])
-    × Reads condition_6 (local 1 0 equal (pos 1) ∷ on 0 (countAtLeast 1) ∷ [])
-    × Reads condition_7 (on 0 (everyAtLeast (pos 6)) ∷ [])
-    × Reads condition_8 (on 0 (someAtMost (pos 4)) ∷ [])
+    × Reads condition_6 (local 1 0 equal (pos 1) ∷ on 0 (count_at_least 1) ∷ [])
+    × Reads condition_7 (on 0 (every_at_least (pos 6)) ∷ [])
+    × Reads condition_8 (on 0 (some_at_most (pos 4)) ∷ [])
 unfolding desks condition_2 condition_3 condition_4 condition_5 condition_6 condition_7 condition_8 u16_at u32_at signed or_if length_of frame_no head_of E.due E.step_no E.item_at E.step_at J.head_no J.local_no J.test_no comparison_of test_of local_at test_at held_at clauses_of ended read_from read_file D.read_of D.clauses_in
 conditions = ((refl, refl), (refl, refl), (refl, refl), (refl, refl), (refl, refl), (refl, refl), (refl, refl))
 

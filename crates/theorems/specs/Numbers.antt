@@ -4,7 +4,7 @@ use Rattle.model.specs.declared.Event.{Event}
 use Rattle.model.specs.declared.Event.TheVariants.{Start, Internal, Send, Receive}
 use Rattle.model.specs.Clause.{Comparison, Test, Clause}
 use Rattle.model.specs.Clause.Comparison.{equal, other, at_most, at_least}
-use Rattle.model.specs.Clause.Test.{countAtMost, countAtLeast, countIs, stampIs, noStampIs, everyAtLeast, someAtMost, count_odd, count_other}
+use Rattle.model.specs.Clause.Test.{count_at_most, count_at_least, count_is, stamp_is, no_stamp_is, every_at_least, some_at_most, count_odd, count_other}
 use Rattle.model.specs.Clause.Clause.{local, on}
 use Rattle.record.specs.Bytes.{u16_at, signed}
 use Rattle.record.specs.Pass.{places_in}
@@ -72,25 +72,25 @@ comparison_number at_least = 4
 
 -- the tests in the order of the paper's table
 abbrev pub test_number : Test → ℕ
-test_number (countAtMost c) = 1
-test_number (countAtLeast c) = 2
-test_number (countIs c) = 3
-test_number (stampIs x) = 4
-test_number (noStampIs x) = 5
-test_number (everyAtLeast x) = 6
-test_number (someAtMost x) = 7
+test_number (count_at_most c) = 1
+test_number (count_at_least c) = 2
+test_number (count_is c) = 3
+test_number (stamp_is x) = 4
+test_number (no_stamp_is x) = 5
+test_number (every_at_least x) = 6
+test_number (some_at_most x) = 7
 test_number count_odd = 8
 test_number (count_other c) = 9
 
 -- "c is unsigned, x signed": the test's number is the operand n of a record; test 8 has none
 abbrev pub OperandIs : Test → ℕ → Type 0
-OperandIs (countAtMost c) n = c ≡ n
-OperandIs (countAtLeast c) n = c ≡ n
-OperandIs (countIs c) n = c ≡ n
-OperandIs (stampIs x) n = x ≡ signed n
-OperandIs (noStampIs x) n = x ≡ signed n
-OperandIs (everyAtLeast x) n = x ≡ signed n
-OperandIs (someAtMost x) n = x ≡ signed n
+OperandIs (count_at_most c) n = c ≡ n
+OperandIs (count_at_least c) n = c ≡ n
+OperandIs (count_is c) n = c ≡ n
+OperandIs (stamp_is x) n = x ≡ signed n
+OperandIs (no_stamp_is x) n = x ≡ signed n
+OperandIs (every_at_least x) n = x ≡ signed n
+OperandIs (some_at_most x) n = x ≡ signed n
 OperandIs count_odd n = Unit {0}
 OperandIs (count_other c) n = c ≡ n
 
