@@ -1,0 +1,11 @@
+use Rattle.record.specs.Refusal.{or_else}
+use borrow.Author.Tests.{eq-eqb, ne_eqb}
+use Rattle.record.proofs.reasons.or_else.Goals as goal
+
+pub returns-then-number-eq0 : goal.returns-then-number-eq0
+unfolding or_else
+returns-then-number-eq0 c = simp (eq-eqb _ _ c.if-number-eq0.true)
+
+pub returns-else-number-eq0 : goal.returns-else-number-eq0
+unfolding or_else
+returns-else-number-eq0 c = simp (ne_eqb _ _ c.if-number-eq0.false)
