@@ -1,0 +1,6 @@
+use borrow.Author.Rules.{rules}
+use mathlib.Core.Path.{refl}
+use Rattle.states.proofs.held.state_at.Goals as goal
+
+pub returns : goal.returns
+returns c = rw (c.event_of-event.ensures, c.state_fields_at-f.ensures) refl
