@@ -18,7 +18,7 @@ use Rattle.states.specs.Inner.{HasChannel}
 use Rattle.states.proofs.Laws.{FieldsOk}
 use Rattle.run.specs.Read.{read_of}
 use Rattle.run.specs.Said.{states_of, run_in, place_of}
-use Rattle.run.specs.Index.{place_listed, HasSlot, Listed}
+use Rattle.run.specs.Index.{place_at, HasSlot, Listed}
 use Rattle.run.proofs.Indexing.{counts_at}
 use Rattle.run.proofs.Places.{stands, places_grow}
 use Rattle.run.proofs.Accepted.{Accepted, run_accepted}
@@ -143,17 +143,17 @@ module _ (s ix : List ℕ) (w : Listed s ix) where
       let h = process_of s w.read t in
       record { process = listed_eight _ h; counted = t.counted; few = omega (arith, t.there, listed_few _ h) }
 
-  pub listed_at : (p k : ℕ) → IsState (run_in s) p k → get_or ix (place_listed p k) 0 ≡ place_of s p k
+  pub listed_at : (p k : ℕ) → IsState (run_in s) p k → get_or ix (place_at p k) 0 ≡ place_of s p k
   listed_at p k t =
       let h = process_of s w.read t in
       w.index.placed p (k - 1) (listed_eight p h) (omega (arith, t.there, t.counted, count-is s w.read p h))
 
   -- the record at a state's place is whole, and says the event
-  pub listed_whole : (p k : ℕ) → IsState (run_in s) p k → get_or ix (place_listed p k) 0 + state_length (head_of s) ≤ length s
+  pub listed_whole : (p k : ℕ) → IsState (run_in s) p k → get_or ix (place_at p k) 0 + state_length (head_of s) ≤ length s
   listed_whole p k t = rw (listed_at p k t) (place_whole s w.read p k t)
 
-  pub listed_state : (p k : ℕ) → IsState (run_in s) p k → state (run_in s) p k ≡ state_at s (get_or ix (place_listed p k) 0)
+  pub listed_state : (p k : ℕ) → IsState (run_in s) p k → state (run_in s) p k ≡ state_at s (get_or ix (place_at p k) 0)
   listed_state p k t = state_is s w.read p k t ∙ ap (state_at s) (sym (listed_at p k t))
 
-  pub listed_event : (p k : ℕ) → IsState (run_in s) p k → event_of (state_fields_at s (get_or ix (place_listed p k) 0)) ≡ into (run_in s) p k
+  pub listed_event : (p k : ℕ) → IsState (run_in s) p k → event_of (state_fields_at s (get_or ix (place_at p k) 0)) ≡ into (run_in s) p k
   listed_event p k t = ap (λ q. event_of (state_fields_at s q)) (listed_at p k t) ∙ sym (event_is s w.read p k t)
