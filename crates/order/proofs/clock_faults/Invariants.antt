@@ -1,0 +1,17 @@
+-- `clock_faults` meets its contract. The invariant of its loop: the processes below p have their entry. The measure is how many are left.
+use borrow.Author.Rules.{rules}
+use native.Mathlib.Omega.{arith}
+use mathlib.Core.Path.{◌≡◌, sym, ◌∙◌}
+use Prim.Native.Nat.{◌-◌, ◌≤◌}
+use lib.ListN.{length, length-set}
+use Rattle.judged.specs.Judged.{WrongClock}
+use Rattle.judged.specs.Firsts.{FirstsTo}
+use Rattle.run.proofs.Listed.{ok}
+use Rattle.judged.proofs.Firsts.{firsts_start, firsts_next}
+use Rattle.order.proofs.clock_faults.Given as goal
+
+abbrev pub invariant-loop-p : goal.invariant-loop-p
+invariant-loop-p l = (l.n ≤ 8) × (l.p ≤ l.n) × (length l.bad ≡ 8) × FirstsTo l.run (WrongClock l.run) l.p l.bad
+
+abbrev pub decreases-loop-p : goal.decreases-loop-p
+decreases-loop-p l = l.n - l.p

@@ -1,0 +1,15 @@
+use borrow.Author.Rules.{rules}
+use borrow.Author.Tests.{eq-eqb}
+use Rattle.judged.specs.Order.{number_of}
+use Rattle.judged.proofs.Orders.{number_other}
+use Rattle.order.proofs.number_of.Goals as goal
+
+pub returns-then-i-p : goal.returns-then-i-p
+unfolding number_of
+returns-then-i-p c = simp (eq-eqb _ _ c.if-i-p.true)
+
+pub returns : goal.returns
+returns c =
+    let a = c.args in
+    number_other a.index.now a.p a.k a.ahead.process a.ahead.state a.i _ _ _
+    c.if-i-p.false c.number_at-own.ensures c.number_at-other.ensures c.larger.ensures

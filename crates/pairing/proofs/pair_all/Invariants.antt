@@ -1,0 +1,19 @@
+-- `pair_all` meets its contract. The invariant of its loop: the processes below p are paired. The measure is how many are left.
+use borrow.Author.Rules.{rules}
+use native.Mathlib.Omega.{arith}
+use mathlib.Core.Path.{◌≡◌, refl, sym, ◌∙◌}
+use Prim.Native.Nat.{◌≤◌, ◌-◌, zero-le}
+use lib.ListN.{length, length-set}
+use Rattle.run.specs.Said.{run_in}
+use Rattle.run.specs.Index.{Listed}
+use Rattle.judged.specs.Pairing.{PairingTables, ProcessesPaired}
+use Rattle.judged.proofs.Partners.{processes_start, processes_next}
+use Rattle.run.proofs.Listed.{ok}
+use Rattle.pairing.proofs.pair_all.Given as goal
+
+abbrev pub invariant-loop-p : goal.invariant-loop-p
+invariant-loop-p l =
+    (l.n ≤ 8) × (l.p ≤ l.n) × (length l.bad ≡ 8) × PairingTables l.marks l.hints × Listed l.run l.index × ProcessesPaired (run_in l.run) l.p l.bad l.index
+
+abbrev pub decreases-loop-p : goal.decreases-loop-p
+decreases-loop-p l = l.n - l.p

@@ -1,0 +1,18 @@
+-- `pair_row` meets its contract. The invariant of its loop: the states ahead of k are clear and entered, and the marks are above what they carry.
+-- The measure is how many states are left.
+use native.Mathlib.Omega.{arith}
+use mathlib.Core.Path.{◌≡◌, refl, sym, ◌∙◌, subst}
+use mathlib.Core.Bool.{true, false}
+use Prim.Native.Nat.{◌+◌, ◌≤◌, ◌-◌}
+use Rattle.model.specs.Run.{IsState, count}
+use Rattle.run.specs.Said.{run_in}
+use Rattle.judged.specs.Pairing.{PairingAt, Settled}
+use Rattle.judged.proofs.Processes.{RowOf, row_of, small_run}
+use Rattle.judged.proofs.Partners.{Partway, partway_start, partway_next, process_fault, process_end, rising_start}
+use Rattle.pairing.proofs.pair_row.Given as goal
+
+abbrev pub invariant-loop-k : goal.invariant-loop-k
+invariant-loop-k l = (1 ≤ l.k) × PairingAt l.run l.index l.marks l.hints l.p l.k × Partway (run_in l.run) l.p l.k l.initial.index l.index
+
+abbrev pub decreases-loop-k : goal.decreases-loop-k
+decreases-loop-k l = l.count + 1 - l.k
