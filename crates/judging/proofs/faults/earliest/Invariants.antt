@@ -1,0 +1,13 @@
+-- `earliest` meets its contract. The invariant of its loop: the lowest place of the processes below p. The measure is how many are left.
+use native.Mathlib.Omega.{arith}
+use mathlib.Core.Path.{◌≡◌}
+use Prim.Native.Nat.{◌≤◌, ◌-◌, zero-le}
+use Rattle.judged.specs.Firsts.{Earliest}
+use Rattle.judged.proofs.Firsts.{earliest_start}
+use Rattle.judging.proofs.faults.earliest.Given as goal
+
+abbrev pub invariant-loop-p : goal.invariant-loop-p
+invariant-loop-p l = (l.p ≤ l.n) × Earliest l.run l.p l.bad l.first
+
+abbrev pub decreases-loop-p : goal.decreases-loop-p
+decreases-loop-p l = l.n - l.p

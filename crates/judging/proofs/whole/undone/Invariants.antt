@@ -1,0 +1,15 @@
+-- `undone` meets its contract. The invariant of its loop: the first p processes have their entry. The measure is how many are left.
+use borrow.Author.Rules.{rules}
+use native.Mathlib.Omega.{arith}
+use mathlib.Core.Path.{◌≡◌, sym, ap, ◌∙◌}
+use Prim.Native.Nat.{ℕ, ◌-◌, ◌≤◌, ◌<◌, zero-le}
+use lib.ListN.{length, get_or, length-set}
+use Rattle.judged.specs.Inner.{next_of}
+use Rattle.judged.proofs.Firsts.{each_next}
+use Rattle.judging.proofs.whole.undone.Given as goal
+
+abbrev pub invariant-loop-p : goal.invariant-loop-p
+invariant-loop-p l = (l.p ≤ l.n) × (length l.bad ≡ 8) × ((q : ℕ) → q < l.p → get_or l.bad q 0 ≡ next_of (get_or l.done q 0) (get_or l.index q 0))
+
+abbrev pub decreases-loop-p : goal.decreases-loop-p
+decreases-loop-p l = l.n - l.p
