@@ -10,7 +10,7 @@ use lib.Dec.{T}
 use lib.ListN.{length, get_or, take, length-take}
 use lib.Seq.{take-take, get_or-take}
 use Rattle.model.specs.declared.Message.{Message}
-use Rattle.model.specs.Run.{Run, State, no_state, nth, state, into, history, channel, processes, sending, paired}
+use Rattle.model.specs.Run.{Run, State, no_state, nth, state, into, history, channel, sending, paired}
 use Rattle.model.specs.Known.{Known}
 use Rattle.model.specs.Cut.{at, IsCut, on_channel, sends, waiting, up_to, between, in_transit}
 use Rattle.model.specs.Sent.{ByMessage}

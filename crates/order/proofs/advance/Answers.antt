@@ -1,5 +1,4 @@
 -- `advance` meets its contract: the process is finished, or it waits, or its next state is done.
-use borrow.Author.Rules.{rules}
 use native.Mathlib.Omega.{arith}
 use mathlib.Core.Path.{◌≡◌, ◌∙◌}
 use Prim.Native.Nat.{◌+◌, ◌≤◌, ◌<◌}

@@ -1,5 +1,4 @@
 -- `ahead_of` meets its contract: the partner of a receive is its send, and is never a first state.
-use borrow.Author.Rules.{rules}
 use native.Mathlib.Omega.{arith}
 use mathlib.Core.Path.{◌≡◌, refl, sym, ap, ◌∙◌}
 use Prim.Native.Nat.{◌<◌}

@@ -1,11 +1,10 @@
 -- `clock_fault` meets its contract. The invariant of its loop: no state ahead of k has a wrong clock. The measure is how many states are left.
 use native.Mathlib.Omega.{arith}
 use mathlib.Core.Path.{◌≡◌, ◌∙◌}
-use Prim.Native.Nat.{◌+◌, ◌-◌, ◌≤◌}
 use Rattle.model.specs.Run.{IsState, count}
 use Rattle.run.specs.Said.{run_in}
 use Rattle.judged.specs.Judged.{WrongClock}
-use Rattle.judged.proofs.Firsts.{NoneAhead, none_next, first_of_here, first_of_none}
+use Rattle.judged.proofs.Firsts.{none_next, first_of_here, first_of_none}
 use Rattle.judged.proofs.Processes.{RowOf, row_of}
 use Rattle.order.proofs.clock_fault.Goals as goal
 

@@ -1,11 +1,7 @@
 -- `clock_faults` meets its contract. The invariant of its loop: the processes below p have their entry. The measure is how many are left.
-use borrow.Author.Rules.{rules}
 use native.Mathlib.Omega.{arith}
 use mathlib.Core.Path.{◌≡◌, sym, ◌∙◌}
-use Prim.Native.Nat.{◌-◌, ◌≤◌}
-use lib.ListN.{length, length-set}
-use Rattle.judged.specs.Judged.{WrongClock}
-use Rattle.judged.specs.Firsts.{FirstsTo}
+use lib.ListN.{length-set}
 use Rattle.run.proofs.Listed.{ok}
 use Rattle.judged.proofs.Firsts.{firsts_start, firsts_next}
 use Rattle.order.proofs.clock_faults.Goals as goal

@@ -1,13 +1,9 @@
 -- `clock_faults` meets its contract. The invariant of its loop: the processes below p have their entry. The measure is how many are left.
-use borrow.Author.Rules.{rules}
-use native.Mathlib.Omega.{arith}
-use mathlib.Core.Path.{◌≡◌, sym, ◌∙◌}
+use mathlib.Core.Path.{◌≡◌}
 use Prim.Native.Nat.{◌-◌, ◌≤◌}
-use lib.ListN.{length, length-set}
+use lib.ListN.{length}
 use Rattle.judged.specs.Judged.{WrongClock}
 use Rattle.judged.specs.Firsts.{FirstsTo}
-use Rattle.run.proofs.Listed.{ok}
-use Rattle.judged.proofs.Firsts.{firsts_start, firsts_next}
 use Rattle.order.proofs.clock_faults.Given as goal
 
 abbrev pub invariant-loop-p : goal.invariant-loop-p

@@ -1,10 +1,8 @@
 -- `clock_row` meets its contract. The invariant of its loop: the first i numbers of the clock are written, and nothing else. The measure is how many are left.
 use native.Mathlib.Omega.{arith}
 use mathlib.Core.Path.{◌≡◌, sym, ◌∙◌}
-use Prim.Native.Nat.{◌-◌, ◌≤◌, ◌<◌}
-use lib.ListN.{length}
-use Rattle.run.specs.Index.{index_size}
-use Rattle.judged.specs.Order.{ClockRoom, Written}
+use Prim.Native.Nat.{◌<◌}
+use Rattle.judged.specs.Order.{ClockRoom}
 use Rattle.judged.proofs.Orders.{written_start, written_next}
 use Rattle.order.proofs.clock_row.Goals as goal
 

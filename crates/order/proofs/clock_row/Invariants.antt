@@ -1,11 +1,9 @@
 -- `clock_row` meets its contract. The invariant of its loop: the first i numbers of the clock are written, and nothing else. The measure is how many are left.
-use native.Mathlib.Omega.{arith}
-use mathlib.Core.Path.{◌≡◌, sym, ◌∙◌}
-use Prim.Native.Nat.{◌-◌, ◌≤◌, ◌<◌}
+use mathlib.Core.Path.{◌≡◌}
+use Prim.Native.Nat.{◌-◌, ◌≤◌}
 use lib.ListN.{length}
 use Rattle.run.specs.Index.{index_size}
-use Rattle.judged.specs.Order.{ClockRoom, Written}
-use Rattle.judged.proofs.Orders.{written_start, written_next}
+use Rattle.judged.specs.Order.{Written}
 use Rattle.order.proofs.clock_row.Given as goal
 
 abbrev pub invariant-loop-i : goal.invariant-loop-i

@@ -1,17 +1,10 @@
 -- `differs` meets its contract. The invariant of its loop: the clock stands whole in the record, and is the same so far. The measure is how many numbers are left.
-use borrow.Author.Rules.{rules}
-use native.Mathlib.Omega.{arith}
-use mathlib.Core.Path.{◌≡◌, sym, ◌∙◌}
+use mathlib.Core.Path.{◌≡◌}
 use mathlib.Core.List.{List}
 use Prim.Native.Nat.{ℕ, ◌+◌, ◌-◌, ◌*◌, ◌≤◌, ◌<◌}
 use lib.ListN.{length}
-use Rattle.record.specs.Inner.{clock_place}
-use Rattle.model.proofs.Numbers.{below_next}
 use Rattle.record.specs.Bytes.{u16_at}
 use Rattle.run.specs.Index.{clock_in}
-use Rattle.run.specs.Said.{place_of}
-use Rattle.run.proofs.Listed.{ok, short, listed_slot, listed_at, listed_whole}
-use Rattle.judged.proofs.Orders.{compared_differs, compared_agrees}
 use Rattle.order.proofs.differs.Given as goal
 
 -- place x of the clock that stands at `at` is that of the index

@@ -1,4 +1,3 @@
-use borrow.Author.Rules.{rules}
 use borrow.Author.Tests.{eq-eqb, ne_eqb}
 use Rattle.judged.specs.Order.{number_at}
 use Rattle.order.proofs.number_at.Goals as goal

@@ -1,4 +1,3 @@
-use borrow.Author.Rules.{rules}
 use borrow.Author.Tests.{eq-eqb}
 use Rattle.judged.specs.Order.{number_of}
 use Rattle.judged.proofs.Orders.{number_other}

@@ -1,9 +1,6 @@
 -- `sweep` meets its contract. The invariant of its loop: the processes below p have had their turn. The measure is how many are left.
-use native.Mathlib.Omega.{arith}
-use mathlib.Core.Path.{◌≡◌, sym, ◌∙◌}
 use Prim.Native.Nat.{◌-◌, ◌≤◌}
 use Rattle.judged.specs.Order.{Swept}
-use Rattle.judged.proofs.Orders.{few_processes, swept_start, swept_next, swept_all}
 use Rattle.order.proofs.sweep.Given as goal
 
 abbrev pub invariant-loop-p : goal.invariant-loop-p

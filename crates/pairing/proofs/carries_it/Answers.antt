@@ -1,4 +1,3 @@
-use borrow.Author.Rules.{rules}
 use Rattle.judged.proofs.Pairs.{carries_start, carries_internal, carries_send, carries_receive}
 use Rattle.pairing.proofs.carries_it.Goals as goal
 

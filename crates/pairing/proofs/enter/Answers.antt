@@ -1,5 +1,4 @@
 -- `enter` meets its contract: the message that is received is on a channel of the run, and only the channel's sender may have sent it.
-use borrow.Author.Rules.{rules}
 use native.Mathlib.Omega.{arith}
 use mathlib.Core.Path.{◌≡◌, ap, ◌∙◌}
 use Prim.Native.Nat.{◌<◌}

@@ -1,9 +1,7 @@
 -- `find` meets its contract. The invariant of its loop: no state from low to k - 1 carries the message. The measure is how many are left.
-use borrow.Author.Rules.{rules}
 use native.Mathlib.Omega.{arith}
 use mathlib.Core.Path.{◌≡◌, refl, sym, ap, ◌∙◌}
 use lib.Dec.{T}
-use Prim.Native.Nat.{ℕ, suc, ◌≤◌, ◌<◌, ◌-◌}
 use Rattle.model.proofs.Numbers.{below_next, T_of, not_T_of}
 use Rattle.model.specs.Run.{into}
 use Rattle.run.specs.Said.{run_in}

@@ -1,15 +1,9 @@
 -- `find` meets its contract. The invariant of its loop: no state from low to k - 1 carries the message. The measure is how many are left.
-use borrow.Author.Rules.{rules}
-use native.Mathlib.Omega.{arith}
-use mathlib.Core.Path.{◌≡◌, refl, sym, ap, ◌∙◌}
 use lib.Dec.{T}
 use Prim.Native.Nat.{ℕ, suc, ◌≤◌, ◌<◌, ◌-◌}
-use Rattle.model.proofs.Numbers.{below_next, T_of, not_T_of}
 use Rattle.model.specs.Run.{into}
 use Rattle.run.specs.Said.{run_in}
-use Rattle.run.proofs.Listed.{listed_few}
 use Rattle.judged.specs.Pairing.{carries}
-use Rattle.judged.specs.Pairing.Carrier.{absent, present}
 use Rattle.pairing.proofs.find.Given as goal
 
 abbrev pub invariant-loop-k : goal.invariant-loop-k

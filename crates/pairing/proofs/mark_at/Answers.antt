@@ -1,4 +1,3 @@
-use borrow.Author.Rules.{rules}
 use Rattle.judged.specs.Pairing.{mark_at}
 use Rattle.pairing.proofs.mark_at.Goals as goal
 

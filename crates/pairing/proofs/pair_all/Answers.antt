@@ -1,12 +1,8 @@
 -- `pair_all` meets its contract. The invariant of its loop: the processes below p are paired. The measure is how many are left.
-use borrow.Author.Rules.{rules}
 use native.Mathlib.Omega.{arith}
 use mathlib.Core.Path.{◌≡◌, refl, sym, ◌∙◌}
-use Prim.Native.Nat.{◌≤◌, ◌-◌, zero-le}
-use lib.ListN.{length, length-set}
-use Rattle.run.specs.Said.{run_in}
-use Rattle.run.specs.Index.{Listed}
-use Rattle.judged.specs.Pairing.{PairingTables, ProcessesPaired}
+use Prim.Native.Nat.{zero-le}
+use lib.ListN.{length-set}
 use Rattle.judged.proofs.Partners.{processes_start, processes_next}
 use Rattle.run.proofs.Listed.{ok}
 use Rattle.pairing.proofs.pair_all.Goals as goal
@@ -31,8 +27,7 @@ pair_row-first-requires c =
 pub loop-p-preserved : goal.loop-p-preserved
 loop-p-preserved c =
     let l = c.loop-p in
-    let i = l.invariant in
-    (
+    let i = l.invariant in (
       i.0,
       omega (arith, c.loop-p-test.true),
       length-set l.bad _ _ ∙ i.2,

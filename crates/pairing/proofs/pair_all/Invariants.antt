@@ -1,14 +1,10 @@
 -- `pair_all` meets its contract. The invariant of its loop: the processes below p are paired. The measure is how many are left.
-use borrow.Author.Rules.{rules}
-use native.Mathlib.Omega.{arith}
-use mathlib.Core.Path.{◌≡◌, refl, sym, ◌∙◌}
-use Prim.Native.Nat.{◌≤◌, ◌-◌, zero-le}
-use lib.ListN.{length, length-set}
+use mathlib.Core.Path.{◌≡◌}
+use Prim.Native.Nat.{◌≤◌, ◌-◌}
+use lib.ListN.{length}
 use Rattle.run.specs.Said.{run_in}
 use Rattle.run.specs.Index.{Listed}
 use Rattle.judged.specs.Pairing.{PairingTables, ProcessesPaired}
-use Rattle.judged.proofs.Partners.{processes_start, processes_next}
-use Rattle.run.proofs.Listed.{ok}
 use Rattle.pairing.proofs.pair_all.Given as goal
 
 abbrev pub invariant-loop-p : goal.invariant-loop-p

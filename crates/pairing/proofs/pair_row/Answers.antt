@@ -3,12 +3,11 @@
 use native.Mathlib.Omega.{arith}
 use mathlib.Core.Path.{◌≡◌, refl, sym, ◌∙◌, subst}
 use mathlib.Core.Bool.{true, false}
-use Prim.Native.Nat.{◌+◌, ◌≤◌, ◌-◌}
 use Rattle.model.specs.Run.{IsState, count}
 use Rattle.run.specs.Said.{run_in}
-use Rattle.judged.specs.Pairing.{PairingAt, Settled}
+use Rattle.judged.specs.Pairing.{Settled}
 use Rattle.judged.proofs.Processes.{RowOf, row_of, small_run}
-use Rattle.judged.proofs.Partners.{Partway, partway_start, partway_next, process_fault, process_end, rising_start}
+use Rattle.judged.proofs.Partners.{partway_start, partway_next, process_fault, process_end, rising_start}
 use Rattle.pairing.proofs.pair_row.Goals as goal
 
 pub count_of-count-requires : goal.count_of-count-requires

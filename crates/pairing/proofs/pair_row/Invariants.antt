@@ -1,14 +1,9 @@
 -- `pair_row` meets its contract. The invariant of its loop: the states ahead of k are clear and entered, and the marks are above what they carry.
 -- The measure is how many states are left.
-use native.Mathlib.Omega.{arith}
-use mathlib.Core.Path.{◌≡◌, refl, sym, ◌∙◌, subst}
-use mathlib.Core.Bool.{true, false}
 use Prim.Native.Nat.{◌+◌, ◌≤◌, ◌-◌}
-use Rattle.model.specs.Run.{IsState, count}
 use Rattle.run.specs.Said.{run_in}
-use Rattle.judged.specs.Pairing.{PairingAt, Settled}
-use Rattle.judged.proofs.Processes.{RowOf, row_of, small_run}
-use Rattle.judged.proofs.Partners.{Partway, partway_start, partway_next, process_fault, process_end, rising_start}
+use Rattle.judged.specs.Pairing.{PairingAt}
+use Rattle.judged.proofs.Partners.{Partway}
 use Rattle.pairing.proofs.pair_row.Given as goal
 
 abbrev pub invariant-loop-k : goal.invariant-loop-k

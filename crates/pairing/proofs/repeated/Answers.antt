@@ -1,5 +1,4 @@
 -- `repeated` meets its contract: a number at or above its channel's mark is new, and any other is looked for.
-use borrow.Author.Rules.{rules}
 use native.Mathlib.Omega.{arith}
 use Prim.Native.Nat.{◌<◌}
 use lib.ListN.{length}
@@ -10,33 +9,33 @@ use Rattle.pairing.proofs.repeated.Goals as goal
 pub offset_bounds-marks-i : goal.offset_bounds-marks-i
 offset_bounds-marks-i c =
     let inside : (c.mark_at-i.result < 32) × (c.mark_at-i.result < length c.args.marks.now) = let a = c.args in
-        let w = c.requires.2 in
-        let h = mark_less a.sends a.message.channel w.channel in
-        (omega (arith, c.mark_at-i.ensures), omega (arith, c.mark_at-i.ensures, w.long)) in
+    let w = c.requires.2 in
+    let h = mark_less a.sends a.message.channel w.channel in
+    (omega (arith, c.mark_at-i.ensures), omega (arith, c.mark_at-i.ensures, w.long)) in
     omega (arith, inside.0)
 
 pub bounds-marks-i : goal.bounds-marks-i
 bounds-marks-i c =
     let inside : (c.mark_at-i.result < 32) × (c.mark_at-i.result < length c.args.marks.now) = let a = c.args in
-        let w = c.requires.2 in
-        let h = mark_less a.sends a.message.channel w.channel in
-        (omega (arith, c.mark_at-i.ensures), omega (arith, c.mark_at-i.ensures, w.long)) in
+    let w = c.requires.2 in
+    let h = mark_less a.sends a.message.channel w.channel in
+    (omega (arith, c.mark_at-i.ensures), omega (arith, c.mark_at-i.ensures, w.long)) in
     omega (arith, inside.1)
 
 pub offset_bounds-marks-i-then-marks-i : goal.offset_bounds-marks-i-then-marks-i
 offset_bounds-marks-i-then-marks-i c =
     let inside : (c.mark_at-i.result < 32) × (c.mark_at-i.result < length c.args.marks.now) = let a = c.args in
-        let w = c.requires.2 in
-        let h = mark_less a.sends a.message.channel w.channel in
-        (omega (arith, c.mark_at-i.ensures), omega (arith, c.mark_at-i.ensures, w.long)) in
+    let w = c.requires.2 in
+    let h = mark_less a.sends a.message.channel w.channel in
+    (omega (arith, c.mark_at-i.ensures), omega (arith, c.mark_at-i.ensures, w.long)) in
     omega (arith, inside.0)
 
 pub bounds-marks-i-then-marks-i : goal.bounds-marks-i-then-marks-i
 bounds-marks-i-then-marks-i c =
     let inside : (c.mark_at-i.result < 32) × (c.mark_at-i.result < length c.args.marks.now) = let a = c.args in
-        let w = c.requires.2 in
-        let h = mark_less a.sends a.message.channel w.channel in
-        (omega (arith, c.mark_at-i.ensures), omega (arith, c.mark_at-i.ensures, w.long)) in
+    let w = c.requires.2 in
+    let h = mark_less a.sends a.message.channel w.channel in
+    (omega (arith, c.mark_at-i.ensures), omega (arith, c.mark_at-i.ensures, w.long)) in
     omega (arith, inside.1)
 
 pub returns-then-marks-i : goal.returns-then-marks-i

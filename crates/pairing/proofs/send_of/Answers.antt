@@ -1,11 +1,9 @@
 -- `send_of` meets its contract: a send that is found behind the last one is one of all, and else all states are looked at.
-use borrow.Author.Rules.{rules}
 use native.Mathlib.Omega.{arith}
 use mathlib.Core.Path.{◌∙◌}
 use mathlib.Core.Bool.{true}
 use Prim.Native.Nat.{ℕ, ◌≤◌, ◌<◌}
-use Rattle.run.specs.Said.{run_in}
-use Rattle.judged.specs.Pairing.{Carrier, Stretch, SendIs}
+use Rattle.judged.specs.Pairing.{Stretch}
 use Rattle.judged.proofs.Pairs.{carrier_near, carrier_at}
 use Rattle.judged.proofs.Processes.{SenderIs, sender_of}
 use Rattle.run.proofs.Listed.{ok}
@@ -28,7 +26,7 @@ pub find-near-requires : goal.find-near-requires
 find-near-requires c =
     let sender : SenderIs c.args.run.now c.args.index.now c.args.message.channel c.channel_at-from.result.from = let r = c.requires in sender_of r.0 r.2 c.channel_at-from.ensures in
     let stretch : (low : ℕ) → 1 ≤ low → let a = c.args in Stretch a.run.now a.index.now c.channel_at-from.result.from low c.count_of-count.result = λ low h. let f = sender in
-        record { listed = c.requires.0; process = f.there; first = h; last = omega (arith, c.count_of-count.ensures, f.row.counted) } in
+    record { listed = c.requires.0; process = f.there; first = h; last = omega (arith, c.count_of-count.ensures, f.row.counted) } in
     stretch _ c.behind.ensures
 
 pub bounds-hints-c-then-near-ne0 : goal.bounds-hints-c-then-near-ne0
@@ -45,7 +43,7 @@ pub find-requires : goal.find-requires
 find-requires c =
     let sender : SenderIs c.args.run.now c.args.index.now c.args.message.channel c.channel_at-from.result.from = let r = c.requires in sender_of r.0 r.2 c.channel_at-from.ensures in
     let stretch : (low : ℕ) → 1 ≤ low → let a = c.args in Stretch a.run.now a.index.now c.channel_at-from.result.from low c.count_of-count.result = λ low h. let f = sender in
-        record { listed = c.requires.0; process = f.there; first = h; last = omega (arith, c.count_of-count.ensures, f.row.counted) } in
+    record { listed = c.requires.0; process = f.there; first = h; last = omega (arith, c.count_of-count.ensures, f.row.counted) } in
     stretch 1 (omega arith)
 
 pub returns : goal.returns

@@ -1,5 +1,4 @@
 -- `settle` meets its contract: at each way out, what the event is, and what was found of a message.
-use borrow.Author.Rules.{rules}
 use mathlib.Core.Path.{◌≡◌, refl, sym, ◌∙◌, subst}
 use mathlib.Core.Bool.{false}
 use Rattle.model.specs.declared.Event.TheVariants.{Send, Receive}

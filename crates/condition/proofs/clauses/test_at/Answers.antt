@@ -1,4 +1,3 @@
-use borrow.Author.Rules.{rules}
 use mathlib.Core.Path.{refl}
 use Rattle.condition.specs.Clauses.{test_at}
 use Rattle.condition.proofs.clauses.test_at.Goals as goal

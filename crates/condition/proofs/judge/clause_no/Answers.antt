@@ -1,4 +1,3 @@
-use borrow.Author.Rules.{rules}
 use Rattle.condition.proofs.judge.clause_no.Goals as goal
 
 pub returns-in-Local : goal.returns-in-Local

@@ -1,4 +1,3 @@
-use borrow.Author.Rules.{rules}
 use Rattle.condition.specs.Judge.{head_no}
 use Rattle.condition.proofs.judge.head_no.Goals as goal
 

@@ -1,4 +1,3 @@
-use borrow.Author.Rules.{rules}
 use Rattle.condition.proofs.judge.judge_no.Goals as goal
 
 pub returns-in-Head : goal.returns-in-Head

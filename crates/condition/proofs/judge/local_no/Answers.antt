@@ -1,4 +1,3 @@
-use borrow.Author.Rules.{rules}
 use Rattle.condition.specs.Judge.{local_no}
 use Rattle.condition.proofs.judge.local_no.Goals as goal
 

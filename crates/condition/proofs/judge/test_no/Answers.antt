@@ -1,4 +1,3 @@
-use borrow.Author.Rules.{rules}
 use Rattle.condition.specs.Judge.{test_no}
 use Rattle.condition.proofs.judge.test_no.Goals as goal
 

@@ -1,4 +1,3 @@
-use borrow.Author.Rules.{rules}
 use mathlib.Core.Path.{sym, ap}
 use Rattle.condition.specs.Inner.{hand_up}
 use Rattle.condition.proofs.pass.hand_up.Goals as goal

@@ -1,4 +1,3 @@
-use borrow.Author.Rules.{rules}
 use Rattle.record.proofs.Pass.{read_long, read_short}
 use Rattle.condition.specs.Read.{condition_pass, read_of}
 use Rattle.condition.proofs.SoFar.{passed_refused}

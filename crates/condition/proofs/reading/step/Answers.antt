@@ -1,9 +1,8 @@
 -- `step` meets its contract: a number that is 0 says that the record is there to its end.
-use borrow.Author.Rules.{rules}
 use native.Mathlib.Omega.{arith}
-use mathlib.Core.Path.{◌≡◌, refl, sym, ◌∙◌}
+use mathlib.Core.Path.{refl, sym, ◌∙◌}
 use borrow.Author.Tests.{eq-eqb, ne_eqb}
-use Rattle.condition.specs.Items.{step_no, step_at}
+use Rattle.condition.specs.Items.{step_at}
 use Rattle.condition.proofs.Laws.{item_opened}
 use Rattle.condition.proofs.reading.step.Goals as goal
 

@@ -1,9 +1,7 @@
 -- `step_no` meets its contract: a frame that is refused stops the chain; a right one has the bytes that the rest of the chain reads.
-use borrow.Author.Rules.{rules}
 use native.Mathlib.Omega.{arith}
-use mathlib.Core.Path.{◌≡◌, sym, ◌∙◌}
-use Rattle.record.specs.Record.{frame_no}
-use Rattle.record.proofs.Laws.{Framed, framed}
+use mathlib.Core.Path.{sym, ◌∙◌}
+use Rattle.record.proofs.Laws.{framed}
 use Rattle.condition.specs.Items.{step_no}
 use Rattle.condition.proofs.Laws.{step_stop}
 use Rattle.condition.proofs.reading.step_no.Goals as goal

@@ -1,8 +1,7 @@
 -- `earliest` meets its contract. The invariant of its loop: the lowest place of the processes below p. The measure is how many are left.
 use native.Mathlib.Omega.{arith}
 use mathlib.Core.Path.{◌≡◌}
-use Prim.Native.Nat.{◌≤◌, ◌-◌, zero-le}
-use Rattle.judged.specs.Firsts.{Earliest}
+use Prim.Native.Nat.{zero-le}
 use Rattle.judged.proofs.Firsts.{earliest_start}
 use Rattle.judging.proofs.faults.earliest.Goals as goal
 

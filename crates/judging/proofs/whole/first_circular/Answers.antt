@@ -1,5 +1,4 @@
 -- `first_circular` meets its contract: it rests on what the ordering leaves, and on the first states that aren't done.
-use borrow.Author.Rules.{rules}
 use native.Mathlib.Omega.{arith}
 use mathlib.Core.Path.{refl}
 use Prim.Native.Nat.{◌<◌}

@@ -1,5 +1,4 @@
 -- `first_unpaired` meets its contract: it rests on what the pairing of all processes leaves.
-use borrow.Author.Rules.{rules}
 use Rattle.judged.proofs.Firsts.{candidates}
 use Rattle.judged.proofs.Verdicts.{pairing_firsts, pairing_judged}
 use Rattle.judging.proofs.whole.first_unpaired.Goals as goal

@@ -1,4 +1,3 @@
-use borrow.Author.Rules.{rules}
 use Rattle.judged.proofs.Firsts.{candidates, first_judged}
 use Rattle.judging.proofs.whole.first_wrong_clock.Goals as goal
 

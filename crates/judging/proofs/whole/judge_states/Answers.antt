@@ -1,5 +1,4 @@
 -- `judge_states` meets its contract: at each way out, what the three judgements so far gave.
-use borrow.Author.Rules.{rules}
 use mathlib.Core.Path.{ap}
 use Rattle.model.specs.Cut.{AfterCircle}
 use Rattle.model.specs.Known.{Known}

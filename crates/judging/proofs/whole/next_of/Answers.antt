@@ -1,4 +1,3 @@
-use borrow.Author.Rules.{rules}
 use borrow.Author.Tests.{lt-ltb, le-ltb}
 use Rattle.judged.specs.Inner.{next_of}
 use Rattle.judging.proofs.whole.next_of.Goals as goal

@@ -1,8 +1,7 @@
 -- `undone` meets its contract. The invariant of its loop: the first p processes have their entry. The measure is how many are left.
-use borrow.Author.Rules.{rules}
 use native.Mathlib.Omega.{arith}
 use mathlib.Core.Path.{◌≡◌, sym, ap, ◌∙◌}
-use Prim.Native.Nat.{ℕ, ◌-◌, ◌≤◌, ◌<◌, zero-le}
+use Prim.Native.Nat.{◌<◌, zero-le}
 use lib.ListN.{length, get_or, length-set}
 use Rattle.judged.specs.Inner.{next_of}
 use Rattle.judged.proofs.Firsts.{each_next}

@@ -1,11 +1,8 @@
 -- `undone` meets its contract. The invariant of its loop: the first p processes have their entry. The measure is how many are left.
-use borrow.Author.Rules.{rules}
-use native.Mathlib.Omega.{arith}
-use mathlib.Core.Path.{◌≡◌, sym, ap, ◌∙◌}
-use Prim.Native.Nat.{ℕ, ◌-◌, ◌≤◌, ◌<◌, zero-le}
-use lib.ListN.{length, get_or, length-set}
+use mathlib.Core.Path.{◌≡◌}
+use Prim.Native.Nat.{ℕ, ◌-◌, ◌≤◌, ◌<◌}
+use lib.ListN.{length, get_or}
 use Rattle.judged.specs.Inner.{next_of}
-use Rattle.judged.proofs.Firsts.{each_next}
 use Rattle.judging.proofs.whole.undone.Given as goal
 
 abbrev pub invariant-loop-p : goal.invariant-loop-p

@@ -1,5 +1,4 @@
 use Rattle.record.specs.Bytes.{signed}
-use borrow.Author.Rules.{rules}
 use borrow.Author.Tests.{lt-ltb, le-ltb}
 use native.Mathlib.Omega.{arith}
 use Prim.Native.Nat.{◌-◌}

@@ -1,4 +1,3 @@
-use borrow.Author.Rules.{rules}
 use mathlib.Core.Path.{refl}
 use Rattle.record.specs.Record.{channel_fields_at}
 use Rattle.record.proofs.reading.channel_fields_at.Goals as goal

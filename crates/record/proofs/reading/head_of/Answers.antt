@@ -1,4 +1,3 @@
-use borrow.Author.Rules.{rules}
 use mathlib.Core.Path.{refl}
 use Rattle.record.specs.Record.{head_of}
 use borrow.Author.Tests.{lt-ltb, le-ltb}

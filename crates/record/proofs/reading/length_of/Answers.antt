@@ -1,5 +1,4 @@
 -- `length_of` meets its contract: in each arm the key decides the tests of the definition.
-use borrow.Author.Rules.{rules}
 use Rattle.record.specs.Record.{length_of}
 use borrow.Author.Tests.{ne_eqb}
 use Rattle.record.proofs.reading.length_of.Goals as goal

@@ -1,9 +1,8 @@
 -- `opening_no` meets its contract: a frame that is refused stops the chain; a right one has the bytes that the rest of the chain reads.
-use borrow.Author.Rules.{rules}
 use native.Mathlib.Omega.{arith}
-use mathlib.Core.Path.{◌≡◌, sym, ◌∙◌}
-use Rattle.record.specs.Record.{frame_no, opening_no}
-use Rattle.record.proofs.Laws.{Framed, framed, opening_stop}
+use mathlib.Core.Path.{sym, ◌∙◌}
+use Rattle.record.specs.Record.{opening_no}
+use Rattle.record.proofs.Laws.{framed, opening_stop}
 use Rattle.record.proofs.reading.opening_no.Goals as goal
 
 pub returns-then-frame-ne0 : goal.returns-then-frame-ne0

@@ -1,9 +1,8 @@
 -- `step_beside` meets its contract: a number that is 0 says that the record is there to its end.
-use borrow.Author.Rules.{rules}
 use native.Mathlib.Omega.{arith}
-use mathlib.Core.Path.{◌≡◌, refl, sym, ◌∙◌}
+use mathlib.Core.Path.{refl, sym, ◌∙◌}
 use borrow.Author.Tests.{eq-eqb, ne_eqb}
-use Rattle.record.specs.Record.{step_no, step_at}
+use Rattle.record.specs.Record.{step_at}
 use Rattle.record.proofs.Laws.{opened, step_opened}
 use Rattle.record.proofs.reading.step_beside.Goals as goal
 

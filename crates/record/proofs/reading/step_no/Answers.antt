@@ -1,12 +1,11 @@
 -- `step_no` meets its contract: an opening that is refused stops the chain; behind a right one only a head has a format.
-use borrow.Author.Rules.{rules}
 use native.Mathlib.Omega.{arith}
-use mathlib.Core.Path.{◌≡◌, sym, ◌∙◌}
+use mathlib.Core.Path.{sym, ◌∙◌}
 use Prim.Native.Nat.{◌+◌, ◌≤◌}
 use borrow.Author.Tests.{ne_eqb}
 use lib.ListN.{length}
 use Rattle.record.specs.Layout.{head_length}
-use Rattle.record.specs.Record.{length_of, opening_no, step_no}
+use Rattle.record.specs.Record.{length_of, step_no}
 use Rattle.record.specs.Refusal.{or_if}
 use Rattle.record.proofs.Laws.{opened, opened_whole, step_stop}
 use Rattle.record.proofs.reading.step_no.Goals as goal

@@ -1,4 +1,3 @@
-use borrow.Author.Rules.{rules}
 use native.Mathlib.Omega.{arith}
 use Rattle.run.specs.Index.{place_at}
 use Rattle.run.proofs.index.place_of.Goals as goal

@@ -1,4 +1,3 @@
-use borrow.Author.Rules.{rules}
 use mathlib.Core.Path.{sym, ap}
 use Rattle.run.specs.Inner.{hand_up}
 use Rattle.run.proofs.pass.hand_up.Goals as goal

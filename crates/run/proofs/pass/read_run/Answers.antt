@@ -1,4 +1,3 @@
-use borrow.Author.Rules.{rules}
 use Rattle.record.proofs.Pass.{read_long, read_short}
 use Rattle.run.specs.Read.{run_pass, read_of}
 use Rattle.run.proofs.SoFar.{passed_refused}

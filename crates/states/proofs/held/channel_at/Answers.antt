@@ -1,4 +1,3 @@
-use borrow.Author.Rules.{rules}
 use mathlib.Core.Path.{refl}
 use Rattle.states.specs.States.{channel_at}
 use Rattle.states.proofs.held.channel_at.Goals as goal

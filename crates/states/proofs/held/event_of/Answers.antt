@@ -1,4 +1,3 @@
-use borrow.Author.Rules.{rules}
 use borrow.Author.Tests.{ne_eqb}
 use mathlib.Core.Path.{ap}
 use Rattle.model.specs.declared.Event.TheVariants.{Send, Receive}

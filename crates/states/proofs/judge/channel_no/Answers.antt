@@ -1,4 +1,3 @@
-use borrow.Author.Rules.{rules}
 use Rattle.states.specs.Judge.{channel_no}
 use Rattle.states.proofs.judge.channel_no.Goals as goal
 

@@ -1,4 +1,3 @@
-use borrow.Author.Rules.{rules}
 use Rattle.states.specs.Judge.{field_no}
 use Rattle.states.proofs.judge.field_no.Goals as goal
 

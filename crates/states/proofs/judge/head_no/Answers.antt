@@ -1,4 +1,3 @@
-use borrow.Author.Rules.{rules}
 use Rattle.states.specs.Judge.{head_no}
 use Rattle.states.proofs.judge.head_no.Goals as goal
 

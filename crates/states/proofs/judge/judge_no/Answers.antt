@@ -1,5 +1,4 @@
 -- `judge_no` meets its contract: a state or an end doesn't stand at 0, so that the head was judged right and has its limit.
-use borrow.Author.Rules.{rules}
 use native.Mathlib.Omega.{arith}
 use mathlib.Core.Path.{sym, ◌∙◌}
 use Rattle.states.proofs.Laws.{state_there, end_there}

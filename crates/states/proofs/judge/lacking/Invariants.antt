@@ -1,9 +1,6 @@
 -- `lacking` meets its contract. The invariant of its loop: `some` says whether a process passed has no state. The measure is what is left of them.
-use borrow.Author.Rules.{rules}
-use mathlib.Core.Path.{◌≡◌, refl}
-use Prim.Native.Nat.{zero-le, ◌≤◌, ◌-◌}
-use native.Mathlib.Numerals.{add-one}
-use native.Mathlib.Omega.{arith}
+use mathlib.Core.Path.{◌≡◌}
+use Prim.Native.Nat.{◌≤◌, ◌-◌}
 use Rattle.states.specs.Judge.{lacks}
 use Rattle.states.proofs.judge.lacking.Given as goal
 

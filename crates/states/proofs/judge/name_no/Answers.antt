@@ -1,4 +1,3 @@
-use borrow.Author.Rules.{rules}
 use Rattle.states.specs.Judge.{name_no}
 use Rattle.states.proofs.judge.name_no.Goals as goal
 

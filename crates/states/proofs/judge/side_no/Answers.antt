@@ -1,4 +1,3 @@
-use borrow.Author.Rules.{rules}
 use borrow.Author.Tests.{ne_eqb}
 use Rattle.states.specs.Judge.{side_no}
 use Rattle.states.proofs.judge.side_no.Goals as goal

@@ -1,4 +1,3 @@
-use borrow.Author.Rules.{rules}
 use Rattle.states.specs.Judge.{start_no}
 use Rattle.states.proofs.judge.start_no.Goals as goal
 

@@ -1,9 +1,8 @@
 -- `state_no` meets its contract: names that are refused stop the chain; right ones have a count and, of a send or a receive, a channel.
-use borrow.Author.Rules.{rules}
 use native.Mathlib.Omega.{arith}
-use mathlib.Core.Path.{◌≡◌, sym, ◌∙◌}
-use Rattle.states.specs.Judge.{name_no, state_no}
-use Rattle.states.proofs.Laws.{NamesOk, named, state_stop}
+use mathlib.Core.Path.{sym, ◌∙◌}
+use Rattle.states.specs.Judge.{state_no}
+use Rattle.states.proofs.Laws.{named, state_stop}
 use Rattle.states.proofs.judge.state_no.Goals as goal
 
 pub returns-then-name-ne0 : goal.returns-then-name-ne0
