@@ -12,21 +12,16 @@ use Rattle.model.specs.Cut.{in_transit}
 use Rattle.run.specs.Said.{run_in}
 use Rattle.transit.specs.Load.{SoFar, is_sought}
 use Rattle.transit.proofs.Between.{in_transit_few}
-use Rattle.transit.proofs.scan.load_on.Statement.{statement}
-use Rattle.transit.proofs.scan.load_on.Tie as tie
+use Rattle.transit.proofs.scan.load_on.Goals as goal
 
 unmet : (ms : List Message) → some_of (λ m. false) ms ≡ false
 unmet [] = refl
 unmet (m ∷ ms) = unmet ms
 
-returns : tie.Need-returns
+pub returns : goal.returns
 unfolding is_sought
 returns c =
-    let s = c.before.before in
-    let a = s.before.before.before.before.args in
-    let whole = s.scan.ensures.met ∙ unmet (in_transit (run_in a.run.now) a.cut.now a.channel) in
-    let fits : SFits w32 s.scan.result.lowest = search rules in
-    (c.load_of.ensures _ (s.scan.ensures.count whole) (subst (SoFar _) (sym (to_z-of_z fits)) (s.scan.ensures.lowest whole)), in_transit_few s.before.before.before.before.requires)
-
-pub load-on-spec : {M : Type 1} → statement M
-load-on-spec = tie.close (tie.spec (λ c κs. search rules) (λ c κs. search rules) returns)
+    let a = c.args in
+    let whole = c.scan-seen.ensures.met ∙ unmet (in_transit (run_in a.run.now) a.cut.now a.channel) in
+    let fits : SFits w32 c.scan-seen.result.lowest = search rules in
+    (c.load_of.ensures _ (c.scan-seen.ensures.count whole) (subst (SoFar _) (sym (to_z-of_z fits)) (c.scan-seen.ensures.lowest whole)), in_transit_few c.requires)
