@@ -1,7 +1,6 @@
 -- At the start, state 1 everywhere, both numbers are 0 on every channel: no first state sends or receives.
 use mathlib.Core.Path.{◌≡◌, sym, ◌∙◌}
 use mathlib.Core.Logic.{⊎_elim}
-use mathlib.Core.List.{List}
 use Prim.Native.Nat.{ℕ, suc, ◌≤◌}
 use native.Mathlib.Omega.{arith}
 use lib.ListN.{length, replicate, length-replicate, get_or-replicate, get_or-eq_default}

@@ -1,0 +1,28 @@
+-- `compares` meets its contract: each comparison as the definition has it, of numbers that come back from their bits.
+use native.Mathlib.Omega.{arith}
+use mathlib.Core.Path.{ap, ◌∙◌}
+use mathlib.Core.Bool.{not}
+use borrow.Author.Tests.{ne_eqb}
+use lib.Signed.{le_z}
+use Rattle.model.specs.Clause.{same_z}
+use Rattle.condition.specs.Clauses.{comparison_of}
+use Rattle.transit.proofs.Signs.{both}
+use Rattle.clause.proofs.compare.compares.Goals as goal
+
+pub returns-in-1 : goal.returns-in-1
+unfolding comparison_of
+returns-in-1 c = both same_z c.ranges.value c.ranges.x ∙ simp c.in-1.is
+
+pub returns-in-2 : goal.returns-in-2
+unfolding comparison_of
+returns-in-2 c = ap not (both same_z c.ranges.value c.ranges.x) ∙ simp c.in-2.is
+
+pub returns-in-3 : goal.returns-in-3
+unfolding comparison_of
+returns-in-3 c = both le_z c.ranges.value c.ranges.x ∙ simp c.in-3.is
+
+pub returns-in_default : goal.returns-in_default
+unfolding comparison_of
+returns-in_default c =
+    let n = c.args.comparison in
+    both le_z c.ranges.x c.ranges.value ∙ simp (ne_eqb n 1 (omega arith), ne_eqb n 2 (omega arith), ne_eqb n 3 (omega arith))
