@@ -10,7 +10,7 @@ ghost use Rattle.record.specs.Record.{step_at};
 use record::reading::step;
 use record::{File, Step};
 
-#[derive(Drop)]
+#[derive(Clone, Copy)]
 pub struct Reader<'a> {
     pub run: &'a [u8],
     pub place: usize,

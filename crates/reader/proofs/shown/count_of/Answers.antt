@@ -1,5 +1,4 @@
 -- `count_of` meets its contract: where a length is there it is the stated one, and else all is shown to the end of the file.
-use borrow.Author.Rules.{rules}
 use mathlib.Core.Path.{ap, sym, ◌∙◌}
 use mathlib.Core.Bool.{◌||◌}
 use lib.Dec.{ltb}
