@@ -4,6 +4,7 @@ ghost use Rattle.run.specs.Index.{index_size, HasSlot};
 
 use crate::line::{begin, end, named, part, short_at};
 use run::index::{INDEX_SIZE, clock_at, partner_of, place_of};
+use std::io;
 
 // A state by its process and its number.
 #[derive(Clone, Copy)]
@@ -126,12 +127,12 @@ fn lowest(run: &[u8], index: &[u16], spot: Spot) -> Spot {
     low
 }
 
-fn spot_line(index: &[u16], spot: Spot) {
+fn spot_line(rt: &impl Print, index: &[u16], spot: Spot) -> io::Result<()> {
     let mut line = [0u8; 64];
     let at = begin(spot_place(index, spot), &mut line);
     let at = named(b" circle process", spot.process, at, &mut line);
     let at = named(b" state", spot.number, at, &mut line);
-    end(at, &mut line);
+    end(rt, at, &mut line)
 }
 
 fn is_same(one: Spot, other: Spot) -> bool {
@@ -139,21 +140,22 @@ fn is_same(one: Spot, other: Spot) -> bool {
 }
 
 // Backward around the circle.
-fn around(run: &[u8], index: &[u16], low: Spot) {
+fn around(rt: &impl Print, run: &[u8], index: &[u16], low: Spot) -> io::Result<()> {
     let mut here = low;
     let mut i: u16 = 0;
     while i < STATES {
-        spot_line(index, here);
+        spot_line(rt, index, here)?;
         here = back(run, index, here);
         if is_same(here, low) {
             break;
         }
         i += 1;
     }
+    Ok(())
 }
 
 // The circle that one comes to going back from state k of process p, from its lowest place on.
-pub fn show(run: &[u8], index: &[u16], p: u16, k: u16) {
+pub fn show(rt: &impl Print, run: &[u8], index: &[u16], p: u16, k: u16) -> io::Result<()> {
     let spot = on_circle(
         run,
         index,
@@ -162,5 +164,5 @@ pub fn show(run: &[u8], index: &[u16], p: u16, k: u16) {
             number: k,
         },
     );
-    around(run, index, lowest(run, index, spot));
+    around(rt, run, index, lowest(run, index, spot))
 }

@@ -5,6 +5,7 @@ use condition::pass::read_condition;
 use condition::reading::step;
 use condition::{Clause, ConditionReading, ConditionStep, Item, Local, Test};
 use record::Head;
+use std::io;
 use writing::{spaced, text};
 
 fn comparison_words(comparison: u16, at: usize, line: &mut [u8]) -> usize {
@@ -65,11 +66,11 @@ fn words(record: &[u8], item: Item, at: usize, line: &mut [u8]) -> usize {
     }
 }
 
-fn printed(cond: &[u8], item: Item, place: usize, next: usize) {
+fn printed(rt: &impl Print, cond: &[u8], item: Item, place: usize, next: usize) -> io::Result<()> {
     let mut line = [0u8; 128];
     let at = begin(place, &mut line);
     let at = words(part(cond, place, next), item, at, &mut line);
-    end(at, &mut line);
+    end(rt, at, &mut line)
 }
 
 // How many clauses are owed after a record where so many were ahead of it.
@@ -96,36 +97,37 @@ struct Next {
     owed: u16,
 }
 
-fn record_line(cond: &[u8], here: Next) -> Next {
+fn record_line(rt: &impl Print, cond: &[u8], here: Next) -> io::Result<Next> {
     let got = step(cond, here.place, here.owed);
     match got {
         ConditionStep::Got(item, next) => {
-            printed(cond, item, here.place, next);
+            printed(rt, cond, item, here.place, next)?;
             let place = if goes_on(item) { next } else { here.place };
-            Next {
+            Ok(Next {
                 place,
                 owed: owed_after(item, here.owed),
-            }
+            })
         }
-        ConditionStep::Refused(_) => here,
+        ConditionStep::Refused(_) => Ok(here),
     }
 }
 
 // All records up to one that begins at the last place; a record has a byte at least.
-fn lines(cond: &[u8], last: usize) {
+fn lines(rt: &impl Print, cond: &[u8], last: usize) -> io::Result<()> {
     let mut here = Next { place: 0, owed: 0 };
     let mut turns = cond.len();
     while turns > 0 {
-        let next = record_line(cond, here);
+        let next = record_line(rt, cond, here)?;
         if (next.place == here.place) | (last <= here.place) {
             break;
         }
         here = next;
         turns -= 1;
     }
+    Ok(())
 }
 
-pub fn show(cond: &[u8]) {
+pub fn show(rt: &impl Print, cond: &[u8]) -> io::Result<()> {
     let mut places = [0u16; 32];
     let most = Head {
         processes: 8,
@@ -133,10 +135,10 @@ pub fn show(cond: &[u8]) {
     };
     let reading = read_condition(cond, most, &mut places);
     match reading {
-        ConditionReading::Accepted(_) => lines(cond, cond.len()),
+        ConditionReading::Accepted(_) => lines(rt, cond, cond.len()),
         ConditionReading::Refused(refusal) => {
-            lines(cond, refusal.place);
-            refusals::show(cond, refusal);
+            lines(rt, cond, refusal.place)?;
+            refusals::show(rt, cond, refusal)
         }
     }
 }

@@ -1,6 +1,6 @@
 // A line as it is made, and the numbers of a record. Where bytes aren't there a number is 0: a record that the step gave has them.
-use libc::STDOUT_FILENO;
 use record::bytes::{signed_of, u16_at, u32_at};
+use std::io;
 use writing::{number, spaced, text};
 
 pub fn short_at(bytes: &[u8], at: usize) -> u16 {
@@ -52,7 +52,7 @@ pub fn begin(place: usize, line: &mut [u8]) -> usize {
 }
 
 // A line goes out whole.
-pub fn end(at: usize, line: &mut [u8]) {
+pub fn end(rt: &impl Print, at: usize, line: &mut [u8]) -> io::Result<()> {
     let n = text(b"\n", at, line);
-    io::write_all(STDOUT_FILENO, part(line, 0, n));
+    rt.write_all(part(line, 0, n))
 }

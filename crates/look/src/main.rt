@@ -8,22 +8,24 @@ mod records;
 mod refusals;
 mod runs;
 
+use std::io;
+
 // A condition begins with a record of kind 16; whatever else there is is taken for a run.
-fn show(bytes: &[u8]) {
+fn show(rt: &impl Print, bytes: &[u8]) -> io::Result<()> {
     if line::short_at(bytes, 2) == 16 {
-        conditions::show(bytes);
+        conditions::show(rt, bytes)
     } else {
-        runs::show(bytes);
+        runs::show(rt, bytes)
     }
 }
 
 // One byte more than a file may have, so that a longer one is seen to be too long.
-fn main() {
+fn main(rt: HostRuntime) -> io::Result<()> {
     let mut bytes = [0u8; 65536];
-    let got = files::read_word(1, &mut bytes);
+    let got = files::read_word(&rt, &rt.stderr(), 1, &mut bytes);
     if !got.whole {
-        return;
+        return Ok(());
     }
     let n = got.n;
-    show(&bytes[..n]);
+    show(&rt, &bytes[..n])
 }

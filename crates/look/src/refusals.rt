@@ -1,8 +1,8 @@
 // A refusal in words, with the bytes of the refused record.
 use crate::line::{begin, end, named, part};
-use libc::STDOUT_FILENO;
 use reader::shown::refused_bytes;
 use record::{File, Refusal};
+use std::io;
 use writing::text;
 
 fn early_words(number: u16, at: usize, line: &mut [u8]) -> usize {
@@ -72,43 +72,43 @@ fn file_words(refusal: Refusal, at: usize, line: &mut [u8]) -> usize {
     }
 }
 
-fn refused_line(refusal: Refusal) {
+fn refused_line(rt: &impl Print, refusal: Refusal) -> io::Result<()> {
     let mut line = [0u8; 256];
     let at = begin(refusal.place, &mut line);
     let at = file_words(refusal, at, &mut line);
     let at = reason_words(refusal.number, at, &mut line);
-    end(at, &mut line);
+    end(rt, at, &mut line)
 }
 
-fn hex_byte(byte: u8) {
-    io::print_hex(STDOUT_FILENO, byte as u64, 2);
+fn hex_byte(rt: &impl Print, byte: u8) -> io::Result<()> {
+    print!(rt; "{byte:02x}")
 }
 
-fn hex(bytes: &[u8]) {
+fn hex(rt: &impl Print, bytes: &[u8]) -> io::Result<()> {
     let mut i: usize = 0;
     while i < bytes.len() {
-        hex_byte(bytes[i]);
+        hex_byte(rt, bytes[i])?;
         i += 1;
     }
+    Ok(())
 }
 
 // The bytes may be as many as the file has, so they go out one by one.
-fn bytes_line(place: usize, bytes: &[u8]) {
+fn bytes_line(rt: &impl Print, place: usize, bytes: &[u8]) -> io::Result<()> {
     let mut line = [0u8; 64];
     let at = begin(place, &mut line);
     let at = text(b" bytes ", at, &mut line);
     if bytes.len() == 0 {
         let at = text(b"-", at, &mut line);
-        end(at, &mut line);
-        return;
+        return end(rt, at, &mut line);
     }
-    io::write_all(STDOUT_FILENO, part(&line, 0, at));
-    hex(bytes);
-    io::write_all(STDOUT_FILENO, b"\n");
+    rt.write_all(part(&line, 0, at))?;
+    hex(rt, bytes)?;
+    rt.write_all(b"\n")
 }
 
 // Of a file that is a run or a condition.
-pub fn show<'a>(bytes: &'a [u8], refusal: Refusal) {
-    refused_line(refusal);
-    bytes_line(refusal.place, refused_bytes(bytes, bytes, refusal));
+pub fn show<'a>(rt: &impl Print, bytes: &'a [u8], refusal: Refusal) -> io::Result<()> {
+    refused_line(rt, refusal)?;
+    bytes_line(rt, refusal.place, refused_bytes(bytes, bytes, refusal))
 }

@@ -6,8 +6,8 @@
 ghost use Rattle.std.specs.Prelude.{◌≤◌, length};
 ghost use Rattle.io.specs.Counts.{IsPrefixLen};
 
-use libc::STDIN_FILENO;
 use record::bytes::{u16_at, u32_at};
+use std::io::Read;
 
 #[derive(Clone, Copy)]
 pub struct Case {
@@ -42,9 +42,24 @@ fn case_of(head: &[u8]) -> Case
     }
 }
 
-pub fn next_case() -> Next {
+// Reads until the buffer is full, the input ends or a read fails, and answers how many bytes came to its front.
+fn read_full(input: &mut impl Read, buffer: &mut [u8]) -> usize
+    ensures { IsPrefixLen result buffer.new }
+{
+    let mut at: usize = 0;
+    while at < buffer.len() {
+        match input.read(&mut buffer[at..]) {
+            Ok(0) => break,
+            Ok(n) => at += n,
+            Err(_) => break,
+        }
+    }
+    at
+}
+
+pub fn next_case(input: &mut impl Read) -> Next {
     let mut head = [0u8; 13];
-    let got = io::read_full(STDIN_FILENO, &mut head);
+    let got = read_full(input, &mut head);
     if got == 0 {
         return Next::Ended;
     }
@@ -55,13 +70,13 @@ pub fn next_case() -> Next {
 }
 
 // Reads n bytes to the front of the buffer and answers how many came; none where n is more than the buffer holds.
-pub fn read_part(buffer: &mut [u8], n: usize) -> usize
+pub fn read_part(input: &mut impl Read, buffer: &mut [u8], n: usize) -> usize
     ensures { IsPrefixLen result buffer.new }
 {
     if buffer.len() < n {
         return 0;
     }
-    io::read_full(STDIN_FILENO, &mut buffer[..n])
+    read_full(input, &mut buffer[..n])
 }
 
 // The numbers that the bytes hold, two bytes each.
@@ -77,14 +92,14 @@ fn take_numbers(bytes: &[u8], numbers: &mut [u16]) {
 }
 
 // Reads n numbers to the front of the row and answers n; none where they are not there, or n is more than the row holds.
-pub fn read_numbers(row: &mut [u16], n: usize) -> usize
+pub fn read_numbers(input: &mut impl Read, row: &mut [u16], n: usize) -> usize
     ensures { IsPrefixLen result row.new }
 {
     let mut bytes = [0u8; 48];
     if row.len() < n {
         return 0;
     }
-    if read_part(&mut bytes, 2 * n) != 2 * n {
+    if read_part(input, &mut bytes, 2 * n) != 2 * n {
         return 0;
     }
     take_numbers(&bytes, row);

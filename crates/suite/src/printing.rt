@@ -1,100 +1,109 @@
 // What the suite prints: the lines of an answer, each answer in one write, and words and numbers of its own.
 use answers::Made;
 use checker::Answer;
-use libc::STDOUT_FILENO;
 use questions::{Count, Verdict};
 use record::reading::head_of;
+use std::io;
 
-pub fn text(words: &[u8]) {
-    io::write_all(STDOUT_FILENO, words);
+pub fn text(rt: &impl Print, words: &[u8]) -> io::Result<()> {
+    rt.write_all(words)
 }
 
 // Each answer goes out in one write. 1,024 bytes are always enough (`theorems/proofs/Enough.antt`).
-pub fn print_answer(run: &[u8], places: &[u16], counts: &[u16], stamps: &[i32], answer: Answer) {
+pub fn print_answer(
+    rt: &impl Print,
+    run: &[u8],
+    places: &[u16],
+    counts: &[u16],
+    stamps: &[i32],
+    answer: Answer,
+) -> io::Result<()> {
     let mut lines = [0u8; 1024];
     let head = head_of(run);
     let n = answers::filled(head.processes, places);
     let m = answers::filled(head.channels, counts);
     let made = answers::answer(answer, &places[..n], &counts[..m], stamps, &mut lines);
     let Made::Lines(length) = made else {
-        return;
+        return Ok(());
     };
-    text(&lines[..length]);
+    text(rt, &lines[..length])
 }
 
-pub fn print_verdict(verdict: Verdict) {
+pub fn print_verdict(rt: &impl Print, verdict: Verdict) -> io::Result<()> {
     let mut lines = [0u8; 1024];
     let made = answers::verdict(verdict, &mut lines);
     let Made::Lines(length) = made else {
-        return;
+        return Ok(());
     };
-    text(&lines[..length]);
+    text(rt, &lines[..length])
 }
 
-pub fn print_count(count: Count) {
+pub fn print_count(rt: &impl Print, count: Count) -> io::Result<()> {
     let mut lines = [0u8; 1024];
     let made = answers::count(count, &mut lines);
     let Made::Lines(length) = made else {
-        return;
+        return Ok(());
     };
-    text(&lines[..length]);
+    text(rt, &lines[..length])
 }
 
-pub fn number(n: usize) {
-    text(b" ");
-    io::print_decimal(STDOUT_FILENO, n as u64);
+pub fn number(rt: &impl Print, n: usize) -> io::Result<()> {
+    print!(rt; " {n}")
 }
 
-pub fn spaced(n: u16) {
-    number(n as usize);
+pub fn spaced(rt: &impl Print, n: u16) -> io::Result<()> {
+    number(rt, n as usize)
 }
 
-fn hex_byte(byte: u8) {
-    io::print_hex(STDOUT_FILENO, byte as u64, 2);
+fn hex_byte(rt: &impl Print, byte: u8) -> io::Result<()> {
+    print!(rt; "{byte:02x}")
 }
 
-pub fn hex(bytes: &[u8]) {
+pub fn hex(rt: &impl Print, bytes: &[u8]) -> io::Result<()> {
     let mut i: usize = 0;
     while i < bytes.len() {
-        hex_byte(bytes[i]);
+        hex_byte(rt, bytes[i])?;
         i += 1;
     }
+    Ok(())
 }
 
-fn numbers(places: &[u16]) {
+fn numbers(rt: &impl Print, places: &[u16]) -> io::Result<()> {
     let mut i: usize = 0;
     while i < places.len() {
-        spaced(places[i]);
+        spaced(rt, places[i])?;
         i += 1;
     }
+    Ok(())
 }
 
-pub fn places_line(places: &[u16]) {
-    text(b"places");
-    numbers(places);
-    text(b"\n");
+pub fn places_line(rt: &impl Print, places: &[u16]) -> io::Result<()> {
+    text(rt, b"places")?;
+    numbers(rt, places)?;
+    text(rt, b"\n")
 }
 
-fn signed(x: i32) {
+fn signed(rt: &impl Print, x: i32) -> io::Result<()> {
     let mut digits = [0u8; 12];
     let n = writing::signed(x, 0, &mut digits);
     if digits.len() < n {
-        return;
+        return Ok(());
     }
-    text(b" ");
-    text(&digits[..n]);
+    text(rt, b" ")?;
+    text(rt, &digits[..n])
 }
 
-fn signed_numbers(stamps: &[i32]) {
+fn signed_numbers(rt: &impl Print, stamps: &[i32]) -> io::Result<()> {
     let mut i: usize = 0;
     while i < stamps.len() {
-        signed(stamps[i]);
+        signed(rt, stamps[i])?;
         i += 1;
     }
+    Ok(())
 }
 
-pub fn stamps_line(stamps: &[i32]) {
-    text(b"stamps");
-    signed_numbers(stamps);
-    text(b"\n");
+pub fn stamps_line(rt: &impl Print, stamps: &[i32]) -> io::Result<()> {
+    text(rt, b"stamps")?;
+    signed_numbers(rt, stamps)?;
+    text(rt, b"\n")
 }

@@ -6,6 +6,7 @@ use crate::{records, shown};
 use questions::{Counts, Verdict};
 use record::bytes::signed_of;
 use record::reading::head_of;
+use std::io;
 
 // What a lent place holds before the search shows whether the search has written there.
 fn lend(places: &mut [u16])
@@ -30,15 +31,15 @@ fn lend_stamps(stamps: &mut [i32])
     }
 }
 
-fn search(run: &[u8], cond: &[u8], places: &mut [u16])
+fn search(rt: &impl Print, run: &[u8], cond: &[u8], places: &mut [u16]) -> io::Result<()>
     requires { length places.old ≤ 24 }
 {
     let mut counts = [0u16; 16];
     let mut stamps = [0i32; 16];
     lend(places);
     let answer = checker::finding::first_cut_listed(run, cond, places, &mut counts, &mut stamps);
-    print_answer(run, places, &counts, &stamps, answer);
-    places_line(places);
+    print_answer(rt, run, places, &counts, &stamps, answer)?;
+    places_line(rt, places)
 }
 
 // The channels at the cut that stands in the first places; rows of zeros where they aren't told.
@@ -52,7 +53,7 @@ fn channels(run: &[u8], places: &[u16], counts: &mut [u16], stamps: &mut [i32]) 
 }
 
 // The same in two calls, one for the cut and one for the channels.
-fn search_apart(run: &[u8], cond: &[u8], places: &mut [u16])
+fn search_apart(rt: &impl Print, run: &[u8], cond: &[u8], places: &mut [u16]) -> io::Result<()>
     requires { length places.old ≤ 24 }
 {
     let mut counts = [0u16; 16];
@@ -60,8 +61,8 @@ fn search_apart(run: &[u8], cond: &[u8], places: &mut [u16])
     lend(places);
     let answer = checker::finding::first_cut(run, cond, places);
     channels(run, places, &mut counts, &mut stamps);
-    print_answer(run, places, &counts, &stamps, answer);
-    places_line(places);
+    print_answer(rt, run, places, &counts, &stamps, answer)?;
+    places_line(rt, places)
 }
 
 // A case lends at most 24 places.
@@ -72,53 +73,67 @@ fn lent(extra: u16) -> usize
 }
 
 // How many messages are on each channel at a given cut, and the lowest of their stamps, into lent places that may be too few.
-fn each_in(run: &[u8], cut: &[u16], counts: &mut [u16], stamps: &mut [i32])
+fn each_in(
+    rt: &impl Print,
+    run: &[u8],
+    cut: &[u16],
+    counts: &mut [u16],
+    stamps: &mut [i32],
+) -> io::Result<()>
     requires { (length counts.old ≤ 24) × (length stamps.old ≤ 24) }
 {
     lend(counts);
     lend_stamps(stamps);
     let told = questions::listing::messages_on_each(run, cut, counts, stamps);
     match told {
-        Counts::Counted => text(b"counted\n"),
-        Counts::Refused(refusal) => print_verdict(Verdict::Refused(refusal)),
+        Counts::Counted => text(rt, b"counted\n")?,
+        Counts::Refused(refusal) => print_verdict(rt, Verdict::Refused(refusal))?,
     }
-    places_line(counts);
-    stamps_line(stamps);
+    places_line(rt, counts)?;
+    stamps_line(rt, stamps)
 }
 
 // The low byte of `extra` says how many places are lent for the counts, its high byte how many for the stamps.
-fn each(run: &[u8], cut: &[u16], extra: u16) {
+fn each(rt: &impl Print, run: &[u8], cut: &[u16], extra: u16) -> io::Result<()> {
     let mut counts = [0u16; 24];
     let mut stamps = [0i32; 24];
     let n = lent(extra % 256);
     let m = lent(extra / 256);
-    each_in(run, cut, &mut counts[..n], &mut stamps[..m]);
+    each_in(rt, run, cut, &mut counts[..n], &mut stamps[..m])
 }
 
 fn asked<'a>(
+    rt: &impl Print,
     question: u8,
     extra: u16,
     run: &'a [u8],
     cond: &'a [u8],
     cut: &[u16],
     places: &mut [u16],
-)
+) -> io::Result<()>
     requires { length places.old ≤ 24 }
 {
     match question {
-        1 => search(run, cond, places),
-        2 => print_verdict(questions::consistency::is_consistent(run, cut)),
-        3 => print_verdict(questions::satisfaction::satisfies(run, cond, cut)),
-        4 => print_count(questions::messages::messages_on(run, cut, extra)),
-        5 => shown::answer(run, cond, places),
-        6 => search_apart(run, cond, places),
-        7 => each(run, cut, extra),
-        _ => records::answer(run, extra),
+        1 => search(rt, run, cond, places),
+        2 => print_verdict(rt, questions::consistency::is_consistent(run, cut)),
+        3 => print_verdict(rt, questions::satisfaction::satisfies(run, cond, cut)),
+        4 => print_count(rt, questions::messages::messages_on(run, cut, extra)),
+        5 => shown::answer(rt, run, cond, places),
+        6 => search_apart(rt, run, cond, places),
+        7 => each(rt, run, cut, extra),
+        _ => records::answer(rt, run, extra),
     }
 }
 
-pub fn answer<'a>(question: u8, extra: u16, run: &'a [u8], cond: &'a [u8], cut: &[u16]) {
+pub fn answer<'a>(
+    rt: &impl Print,
+    question: u8,
+    extra: u16,
+    run: &'a [u8],
+    cond: &'a [u8],
+    cut: &[u16],
+) -> io::Result<()> {
     let mut room = [0u16; 24];
     let n = lent(extra);
-    asked(question, extra, run, cond, cut, &mut room[..n]);
+    asked(rt, question, extra, run, cond, cut, &mut room[..n])
 }

@@ -2,29 +2,35 @@
 use crate::printing::{hex, number, text};
 use reader::Part;
 use record::File;
+use std::io;
 
 // Where the part stands and how long it is, and then its bytes: an empty part has a file and a place too.
-fn part_line(part: Part) {
+fn part_line(rt: &impl Print, part: Part) -> io::Result<()> {
     let file = part.file;
     match file {
-        File::Run => text(b"shown run"),
-        File::Condition => text(b"shown cond"),
+        File::Run => text(rt, b"shown run")?,
+        File::Condition => text(rt, b"shown cond")?,
     }
-    number(part.place);
-    number(part.count);
-    text(b" ");
+    number(rt, part.place)?;
+    number(rt, part.count)?;
+    text(rt, b" ")
 }
 
-fn bytes_line(bytes: &[u8]) {
+fn bytes_line(rt: &impl Print, bytes: &[u8]) -> io::Result<()> {
     if bytes.len() == 0 {
-        text(b"-");
+        text(rt, b"-")?;
     }
-    hex(bytes);
-    text(b"\n");
+    hex(rt, bytes)?;
+    text(rt, b"\n")
 }
 
-pub fn answer<'a>(run: &'a [u8], cond: &'a [u8], places: &mut [u16]) {
+pub fn answer<'a>(
+    rt: &impl Print,
+    run: &'a [u8],
+    cond: &'a [u8],
+    places: &mut [u16],
+) -> io::Result<()> {
     let answer = checker::finding::first_cut(run, cond, places);
-    part_line(checker::showing::shown_part(run, cond, answer));
-    bytes_line(checker::showing::shown(run, cond, answer));
+    part_line(rt, checker::showing::shown_part(run, cond, answer))?;
+    bytes_line(rt, checker::showing::shown(run, cond, answer))
 }
