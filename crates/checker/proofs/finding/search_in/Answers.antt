@@ -1,0 +1,38 @@
+-- `search_in` meets its contract: at each way out, what the search gave.
+use borrow.Author.Rules.{rules}
+use native.Mathlib.Omega.{arith}
+use mathlib.Core.Path.{refl}
+use mathlib.Core.List.{List}
+use Prim.Native.Nat.{ℕ}
+use Rattle.model.specs.Clause.{First}
+use Rattle.run.specs.Said.{run_in}
+use Rattle.run.proofs.Listed.{processes_are}
+use Rattle.condition.specs.Known.{clauses_for}
+use Rattle.checker.specs.Inner.{Searching}
+use Rattle.checker.specs.Answered.{Both}
+use Rattle.checker.specs.Answered.Answered.{none, found}
+use Rattle.search.proofs.Prepared.{given, searched_found, searched_none}
+use Rattle.checker.proofs.finding.search_in.Goals as goal
+
+both : {s c ix qs row lent : List ℕ} → Searching s c ix qs row lent → Both s c
+both r = record { run = r.accepted; cond = r.prepared.condition }
+
+pub search-outcome-requires : goal.search-outcome-requires
+search-outcome-requires c = let r = c.requires in (given r.prepared, r.ones)
+
+pub returns-in_default : goal.returns-in_default
+returns-in_default c =
+    let r = c.requires in
+    none (both r) r.room (searched_none r.prepared c.search-outcome.ensures c.in_default.is) refl
+
+pub write-requires : goal.write-requires
+write-requires c =
+    let first : First (run_in c.args.run.now) (clauses_for c.args.run.now c.args.cond.now) c.search-outcome.new.cut = searched_found c.requires.prepared c.search-outcome.ensures c.in-Found.is in
+    let r = c.requires in
+    omega (arith, first.satisfies.is_cut.size, processes_are _ r.prepared.index.listed.read, r.room)
+
+pub returns : goal.returns
+returns c =
+    let first : First (run_in c.args.run.now) (clauses_for c.args.run.now c.args.cond.now) c.search-outcome.new.cut = searched_found c.requires.prepared c.search-outcome.ensures c.in-Found.is in
+    let r = c.requires in
+    found (both r) r.room _ (first) c.write.ensures
