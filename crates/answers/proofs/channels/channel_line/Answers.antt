@@ -1,0 +1,13 @@
+-- `channel_line` meets its contract: its parts are put one after the other.
+use borrow.Author.Rules.{rules}
+use mir.Facts.{to_z-of_z}
+use Rattle.writing.specs.Text.{bytes}
+use Rattle.writing.proofs.Putting.{put_then}
+use Rattle.answers.specs.Lines.{channel_line}
+use Rattle.answers.proofs.channels.channel_line.Goals as goal
+
+pub returns : goal.returns
+unfolding channel_line bytes
+returns c =
+    let counted = put_then (put_then c.text-number.ensures c.spaced-messages.ensures) c.spaced-space.ensures in
+    put_then (put_then (put_then counted c.text-lowest.ensures) (rw (to_z-of_z c.ranges.stamp) at c.stamp_word-end.ensures)) c.text.ensures

@@ -1,0 +1,13 @@
+-- `count_line` meets its contract: its parts are put one after the other.
+use borrow.Author.Rules.{rules}
+use mir.Facts.{to_z-of_z}
+use Rattle.writing.specs.Text.{bytes}
+use Rattle.writing.proofs.Putting.{put_then}
+use Rattle.answers.specs.Lines.{count_line}
+use Rattle.answers.proofs.channels.count_line.Goals as goal
+
+pub returns : goal.returns
+unfolding count_line bytes
+returns c =
+    let spaced = put_then (put_then c.text-number.ensures c.spaced-space.ensures) c.text-lowest.ensures in
+    put_then (put_then spaced (rw (to_z-of_z c.ranges.stamp) at c.signed-end.ensures)) c.text.ensures

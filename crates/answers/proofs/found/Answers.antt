@@ -1,0 +1,10 @@
+-- `found` meets its contract: its parts are put one after the other.
+use borrow.Author.Rules.{rules}
+use Rattle.writing.specs.Text.{bytes}
+use Rattle.answers.specs.Lines.{found_lines}
+use Rattle.writing.proofs.Putting.{put_then}
+use Rattle.answers.proofs.found.Goals as goal
+
+pub returns : goal.returns
+unfolding found_lines bytes
+returns c = put_then (put_then c.text-states.ensures c.row_lines-channels.ensures) c.channel_lines.ensures
