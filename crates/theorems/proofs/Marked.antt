@@ -289,6 +289,7 @@ data All : List Case → Type 0 where
   ◌also◌ : {k : Case} {ks : List Case} → Says k → All ks → All (k ∷ ks)
 
 each : {ks : List Case} → All ks → (k : Case) → Memᴰ k ks → Says k
+each none_left k x = elim x [ ]
 each (w also ws) k (Memᴰ.head e) = rw e w
 each (w also ws) k (Memᴰ.tail q) = each ws k q
 
