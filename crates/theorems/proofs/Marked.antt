@@ -8,9 +8,9 @@ use native.Mathlib.Omega.{arith}
 use lib.Dec.{T}
 use lib.IntN.{pos}
 use lib.ListN.{length, get_or, drop}
-use Rattle.model.specs.Run.{Run, processes, IsState, into, state, paired}
+use Rattle.model.specs.Run.{processes, IsState, into, state, paired}
 use Rattle.model.specs.Known.{Known}
-use Rattle.model.specs.Cut.{AfterCircle, at, IsCut, Consistent, ClockIs, in_transit}
+use Rattle.model.specs.Cut.{AfterCircle, IsCut, Consistent, ClockIs, in_transit}
 use Rattle.model.specs.Clause.{Clause, Satisfies, First}
 use Rattle.model.specs.LowestStamp.{LowestStamp}
 use Rattle.model.proofs.LowestStamp.{lowest_first}
@@ -21,7 +21,7 @@ use Rattle.model.proofs.Decide.{consistent?, cut?, cut_iff, message_iff}
 use Rattle.model.proofs.Order.{consistent_by_message}
 use Rattle.model.proofs.Desks as M
 use Rattle.record.specs.Bytes.{u16_at, u32_at, signed}
-use Rattle.record.specs.Refusal.{or_if, or_else, number, refusal}
+use Rattle.record.specs.Refusal.{or_if, or_else, refusal}
 use Rattle.record.specs.Record.{length_of, frame_no, head_of, due, opening_no, step_no, channel_fields_at, state_fields_at, record_at, step_at}
 use Rattle.record.specs.declared.File.TheVariants as F
 use Rattle.states.specs.States.{message_of, event_of, state_at, channel_at, places_of, tabulate, run_of}

@@ -1,5 +1,4 @@
 -- `answer` meets its contract: the first call tells how long the lines are, and the second puts them where they fit.
-use borrow.Author.Rules.{rules}
 use Rattle.answers.proofs.Calls.{put_made, put_short}
 use Rattle.answers.proofs.answer.Goals as goal
 

@@ -1,5 +1,4 @@
 -- `found` meets its contract: its parts are put one after the other.
-use borrow.Author.Rules.{rules}
 use Rattle.writing.specs.Text.{bytes}
 use Rattle.answers.specs.Lines.{found_lines}
 use Rattle.writing.proofs.Putting.{put_then}

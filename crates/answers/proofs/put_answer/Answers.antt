@@ -1,5 +1,4 @@
 -- `put_answer` meets its contract, for each answer.
-use borrow.Author.Rules.{rules}
 use Rattle.writing.specs.Text.{bytes}
 use Rattle.answers.specs.Lines.{answer_lines}
 use Rattle.answers.proofs.put_answer.Goals as goal

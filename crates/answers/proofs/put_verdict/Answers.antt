@@ -1,5 +1,4 @@
 -- `put_verdict` meets its contract, for each answer.
-use borrow.Author.Rules.{rules}
 use Rattle.writing.specs.Text.{bytes}
 use Rattle.answers.specs.Lines.{verdict_lines}
 use Rattle.answers.proofs.put_verdict.Goals as goal

@@ -1,5 +1,4 @@
 -- `refused` meets its contract: the line with the word for its file.
-use borrow.Author.Rules.{rules}
 use Rattle.writing.specs.Text.{bytes}
 use Rattle.answers.specs.Lines.{refused_word, refused_line}
 use Rattle.answers.proofs.refused.Goals as goal

@@ -1,5 +1,4 @@
 -- `channel_line` meets its contract: its parts are put one after the other.
-use borrow.Author.Rules.{rules}
 use mir.Facts.{to_z-of_z}
 use Rattle.writing.specs.Text.{bytes}
 use Rattle.writing.proofs.Putting.{put_then}

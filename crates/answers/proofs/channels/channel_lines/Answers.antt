@@ -2,14 +2,12 @@
 use borrow.Author.Rules.{rules}
 use native.Mathlib.Omega.{arith}
 use mathlib.Core.Path.{◌≡◌}
-use Prim.Native.Nat.{◌-◌, ◌≤◌, zero-le, min}
+use Prim.Native.Nat.{zero-le, min}
 use lib.IntN.{pos}
 use lib.ListN.{length, get_or}
 use mir.Facts.{to_z-of_z}
 use mir.Syntax.{w32}
 use mir.Val.{SFits}
-use Rattle.writing.specs.Stored.{Put}
-use Rattle.writing.proofs.Lines.{lines_to}
 use Rattle.writing.proofs.Putting.{put_none, put_long, lines_next, lines_all}
 use Rattle.answers.proofs.ChannelLines.{channel_line_at, channel-lines}
 use Rattle.answers.proofs.channels.channel_lines.Goals as goal

@@ -1,5 +1,4 @@
 -- `stamp_word` meets its contract, for an empty channel and for the others.
-use borrow.Author.Rules.{rules}
 use native.Mathlib.Omega.{arith}
 use mathlib.Core.Path.{◌≡◌}
 use mir.Facts.{to_z-of_z}

@@ -1,4 +1,3 @@
-use borrow.Author.Rules.{rules}
 use mathlib.Core.Path.{refl}
 use Rattle.checker.specs.Answered.Answered.{run_refused}
 use Rattle.judged.proofs.Told.{judged_refused, judged_accepted}

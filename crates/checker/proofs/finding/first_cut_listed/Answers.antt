@@ -1,5 +1,4 @@
 -- `first_cut_listed` meets its contract: a refused run leaves all places as they were, an accepted one comes with its index.
-use borrow.Author.Rules.{rules}
 use Rattle.judged.proofs.Told.{judged_refused, judged_accepted}
 use Rattle.checker.proofs.Channels.{run-refused}
 use Rattle.checker.proofs.finding.first_cut_listed.Goals as goal

@@ -1,5 +1,4 @@
 -- `listed_for` meets its contract: where a row is too short nothing is lent for the cut, and so nothing is written.
-use borrow.Author.Rules.{rules}
 use mathlib.Core.Path.{refl}
 use Rattle.cut.proofs.Writing.{room_lacks, room_there}
 use Rattle.checker.proofs.Channels.{without_row}

@@ -1,5 +1,4 @@
 -- `search_for` meets its contract: 15 where there are too few places, else what the search in a row of ones gives.
-use borrow.Author.Rules.{rules}
 use native.Mathlib.Omega.{arith}
 use mathlib.Core.Path.{refl, sym, ap, ◌∙◌}
 use Prim.Native.Nat.{◌≤◌}

@@ -1,5 +1,4 @@
 -- `search_in` meets its contract: at each way out, what the search gave.
-use borrow.Author.Rules.{rules}
 use native.Mathlib.Omega.{arith}
 use mathlib.Core.Path.{refl}
 use mathlib.Core.List.{List}

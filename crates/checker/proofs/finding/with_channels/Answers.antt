@@ -1,20 +1,11 @@
 -- `with_channels` meets its contract: what isn't found leaves both rows as they were, and the front of the lent places is the cut that was found.
-use borrow.Author.Rules.{rules}
 use native.Mathlib.Omega.{arith}
 use mathlib.Core.Path.{refl, sym, ap, subst}
-use mathlib.Core.Logic.{◌≢◌}
-use mathlib.Core.List.{[], ◌∷◌}
 use Prim.Native.Nat.{◌≤◌}
 use lib.ListN.{length}
 use lib.Seq.{length-take-le}
-use types.Run.{OneOf, miss}
-use denote.Enum.Declared.{tag_of}
-use Rattle.model.proofs.Numbers.{never}
 use Rattle.cut.specs.Listing.{Room}
-use Rattle.checker.specs.declared.Answer.{Answer}
-use Rattle.checker.specs.declared.Answer.TheVariants as A
 use Rattle.checker.specs.Answered.AnsweredListed.{unlisted}
-use Rattle.checker.specs.contracts.Answer as E
 use Rattle.checker.proofs.Channels.{CutFound, found_cut, front_cut, front_listed}
 use Rattle.checker.proofs.finding.with_channels.Goals as goal
 
@@ -28,14 +19,14 @@ pub slice_bounds-list_channels-end : goal.slice_bounds-list_channels-end
 slice_bounds-list_channels-end c =
     let cut : CutFound c.args.run.now c.args.cond.now c.args.lent.now c.with_condition-answer.new.lent = found_cut c.with_condition-answer.ensures c.in-Found.is in
     let few : c.args.head.processes ≤ length c.with_condition-answer.new.lent = let u = cut in
-        omega (arith, ap (λ h. h.processes) c.requires.0.head, u.room, u.wrote.long) in
+    omega (arith, ap (λ h. h.processes) c.requires.0.head, u.room, u.wrote.long) in
     few
 
 pub slice_bounds-list_channels-end-2 : goal.slice_bounds-list_channels-end-2
 slice_bounds-list_channels-end-2 c =
     let cut : CutFound c.args.run.now c.args.cond.now c.args.lent.now c.with_condition-answer.new.lent = found_cut c.with_condition-answer.ensures c.in-Found.is in
     let few : c.args.head.processes ≤ length c.with_condition-answer.new.lent = let u = cut in
-        omega (arith, ap (λ h. h.processes) c.requires.0.head, u.room, u.wrote.long) in
+    omega (arith, ap (λ h. h.processes) c.requires.0.head, u.room, u.wrote.long) in
     sym (length-take-le _ _ few)
 
 pub list_channels-requires : goal.list_channels-requires

@@ -1,4 +1,3 @@
-use borrow.Author.Rules.{rules}
 use mathlib.Core.Path.{refl}
 use Rattle.reader.proofs.Parts.{front_is}
 use Rattle.checker.proofs.showing.shown.Goals as goal

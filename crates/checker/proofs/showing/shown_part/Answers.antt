@@ -1,4 +1,3 @@
-use borrow.Author.Rules.{rules}
 use Rattle.checker.proofs.showing.shown_part.Goals as goal
 
 pub returns-in-Refused : goal.returns-in-Refused

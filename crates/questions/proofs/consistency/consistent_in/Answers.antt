@@ -1,7 +1,6 @@
 -- `consistent_in` meets its contract: at each way out, what the tests of the cut and of its clocks gave.
 use mathlib.Core.Bool.{not}
 use mathlib.Core.Path.{ap}
-use borrow.Author.Rules.{rules}
 use Rattle.model.specs.Cut.{IsCut}
 use Rattle.model.proofs.Numbers.{never}
 use Rattle.run.specs.Said.{run_in}

@@ -1,6 +1,5 @@
 -- `list_in` meets its contract: at each way out, what the tests of the cut and of the room gave.
 use mathlib.Core.Bool.{not}
-use borrow.Author.Rules.{rules}
 use mathlib.Core.Path.{refl, ap, subst}
 use Rattle.model.specs.Cut.{IsCut}
 use Rattle.run.specs.Said.{run_in}

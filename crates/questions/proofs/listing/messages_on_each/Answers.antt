@@ -1,4 +1,3 @@
-use borrow.Author.Rules.{rules}
 use mathlib.Core.Path.{refl}
 use Rattle.judged.proofs.Told.{judged_refused, judged_accepted}
 use Rattle.questions.specs.Questions.{AskedEach}

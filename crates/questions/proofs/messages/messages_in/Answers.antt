@@ -1,6 +1,5 @@
 -- `messages_in` meets its contract: at each way out, what the tests of the cut and of the channel gave.
 use mathlib.Core.Bool.{not}
-use borrow.Author.Rules.{rules}
 use native.Mathlib.Omega.{arith}
 use mathlib.Core.Path.{ap}
 use Rattle.model.specs.Cut.{IsCut}

@@ -1,4 +1,3 @@
-use borrow.Author.Rules.{rules}
 use Rattle.judged.proofs.Told.{judged_refused, judged_accepted}
 use Rattle.questions.specs.Questions.{AskedMessages}
 use Rattle.questions.proofs.messages.messages_on.Goals as goal

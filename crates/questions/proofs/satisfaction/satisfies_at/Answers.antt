@@ -1,6 +1,5 @@
 -- `satisfies_at` meets its contract: at each way out, what the tests of the cut and of the clauses gave.
 use mathlib.Core.Bool.{not}
-use borrow.Author.Rules.{rules}
 use mathlib.Core.Path.{sym, ap, subst}
 use Rattle.model.specs.Cut.{IsCut}
 use Rattle.model.specs.Clause.{Satisfies}

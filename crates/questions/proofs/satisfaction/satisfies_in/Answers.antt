@@ -1,5 +1,4 @@
 -- `satisfies_in` meets its contract: the condition is refused, or its clauses stand in the front of the row.
-use borrow.Author.Rules.{rules}
 use mathlib.Core.Path.{sym}
 use Prim.Native.Nat.{◌≤◌}
 use lib.ListN.{length}

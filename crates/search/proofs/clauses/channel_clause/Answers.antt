@@ -1,5 +1,4 @@
 -- `channel_clause` meets its contract: a channel clause is tested, any other passed over.
-use borrow.Author.Rules.{rules}
 use mathlib.Core.Path.{refl, sym, ◌∙◌}
 use Rattle.condition.proofs.Accepted.{held-channel}
 use Rattle.search.specs.Search.Tried.{tested, passed}

@@ -1,10 +1,8 @@
 -- `first_channel` meets its contract. The invariant of its loop: the channel clauses so far hold. The measure is the number of clauses left.
-use borrow.Author.Rules.{rules}
-use native.Mathlib.Omega.{arith}
-use Prim.Native.Nat.{◌-◌, ◌≤◌, zero-le}
+use Prim.Native.Nat.{◌-◌, ◌≤◌}
 use mathlib.Core.Bool.{false}
 use lib.ListN.{length}
-use Rattle.search.proofs.Moving.{KindHolds, kind_holds_next, all_of_kind, one_of_kind}
+use Rattle.search.proofs.Moving.{KindHolds}
 use Rattle.search.proofs.clauses.first_channel.Given as goal
 
 abbrev pub invariant-loop-i : goal.invariant-loop-i

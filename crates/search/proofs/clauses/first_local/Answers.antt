@@ -1,10 +1,7 @@
 -- `first_local` meets its contract. The invariant of its loop: the local clauses so far hold. The measure is the number of clauses left.
-use borrow.Author.Rules.{rules}
 use native.Mathlib.Omega.{arith}
-use Prim.Native.Nat.{◌-◌, ◌≤◌, zero-le}
-use mathlib.Core.Bool.{true}
-use lib.ListN.{length}
-use Rattle.search.proofs.Moving.{KindHolds, kind_holds_next, all_of_kind, one_of_kind}
+use Prim.Native.Nat.{zero-le}
+use Rattle.search.proofs.Moving.{kind_holds_next, all_of_kind, one_of_kind}
 use Rattle.search.proofs.clauses.first_local.Goals as goal
 
 pub loop-i-init : goal.loop-i-init

@@ -1,5 +1,4 @@
 -- `local_clause` meets its contract: a local clause is tested, any other passed over.
-use borrow.Author.Rules.{rules}
 use mathlib.Core.Path.{refl, sym, ◌∙◌}
 use Rattle.condition.proofs.Accepted.{held_local}
 use Rattle.search.specs.Search.Tried.{tested, passed}

@@ -1,17 +1,13 @@
 -- `eliminate` meets its contract. The invariant of its loop: the cut is one of the run, at or below every satisfying cut; the kept numbers are those of the
 -- cut, in rows of the lengths they had. The measure is 4,096 less what the cut's numbers add up to.
-use borrow.Author.Rules.{rules}
 use native.Mathlib.Omega.{arith}
 use mathlib.Core.Path.{◌≡◌, refl, sym, ◌∙◌}
-use mathlib.Core.Logic.{⊎_elim}
-use Prim.Native.Nat.{◌-◌, ◌<◌}
+use Prim.Native.Nat.{◌<◌}
 use lib.ListN.{length, get_or}
 use Rattle.model.specs.Run.{count}
-use Rattle.model.specs.Total.{total}
 use Rattle.run.specs.Said.{run_in}
 use Rattle.condition.specs.Clauses.{clauses_of}
-use Rattle.kept.specs.Kept.{CountsKept}
-use Rattle.search.specs.Search.{LowestCut, Moved, every}
+use Rattle.search.specs.Search.{Moved, every}
 use Rattle.search.proofs.Moving.{Located, moved_channels, moved_before, search_found, moved_process, search_none, search_move, search_less}
 use Rattle.search.proofs.eliminate.eliminate.Goals as goal
 use Rattle.search.proofs.eliminate.eliminate.Goals.{Joined-behind, In-Process-named, in-Nobody, in-Process}
@@ -23,8 +19,8 @@ loop-cut-init c = let r = c.requires in (r.1, r.2, refl, refl)
 told : (c : Joined-behind) → Moved (run_in c.args.run.now) (clauses_of c.args.cond.now c.args.clauses.now) c.args.index.now c.loop-cut.cut every c.match-behind.named
 told c =
     elim c.match-behind.branch [
-      in-Nobody w ↦ moved_channels c.requires.0 c.loop-cut.cut c.loop-cut.invariant.0 w.in-Nobody.is c.first_behind-behind.ensures w.first_channel-named.ensures w.named-is
-    | in-Process w ↦ moved_before c.requires.0 c.loop-cut.cut c.loop-cut.invariant.0 w.in-Process.is c.first_behind-behind.ensures w.named-is
+      | in-Nobody w ↦ moved_channels c.requires.0 c.loop-cut.cut c.loop-cut.invariant.0 w.in-Nobody.is c.first_behind-behind.ensures w.first_channel-named.ensures w.named-is
+      | in-Process w ↦ moved_before c.requires.0 c.loop-cut.cut c.loop-cut.invariant.0 w.in-Process.is c.first_behind-behind.ensures w.named-is
     ]
 
 mover : (c : In-Process-named) → Moved (run_in c.args.run.now) (clauses_of c.args.cond.now c.args.clauses.now) c.args.index.now c.loop-cut.cut every c.match-behind.named
@@ -101,8 +97,7 @@ loop-cut-preserved c =
     let who = told (goal.at.loop-cut-preserved c).Joined-behind in
     let found = mover (goal.at.loop-cut-preserved c).In-Process-named who in
     let further : get_or c.loop-cut.cut c.in-Process-named.p 0 < count (run_in c.args.run.now) c.in-Process-named.p = omega (arith, found.counted, c.count_of.ensures, c.if-count_of-at.false) in
-    let n = found in
-    (
+    let n = found in (
       search_move c.requires.0 c.loop-cut.cut c.loop-cut.invariant.0 _ n.there n.must (further),
       c.bring_forward.ensures,
       c.bring_forward.auto.counts ∙ c.loop-cut.invariant.2,

@@ -1,18 +1,13 @@
 -- `eliminate` meets its contract. The invariant of its loop: the cut is one of the run, at or below every satisfying cut; the kept numbers are those of the
 -- cut, in rows of the lengths they had. The measure is 4,096 less what the cut's numbers add up to.
-use borrow.Author.Rules.{rules}
-use native.Mathlib.Omega.{arith}
-use mathlib.Core.Path.{◌≡◌, refl, sym, ◌∙◌}
-use mathlib.Core.Logic.{⊎_elim}
-use Prim.Native.Nat.{◌-◌, ◌<◌}
-use lib.ListN.{length, get_or}
-use Rattle.model.specs.Run.{count}
+use mathlib.Core.Path.{◌≡◌}
+use Prim.Native.Nat.{◌-◌}
+use lib.ListN.{length}
 use Rattle.model.specs.Total.{total}
 use Rattle.run.specs.Said.{run_in}
 use Rattle.condition.specs.Clauses.{clauses_of}
 use Rattle.kept.specs.Kept.{CountsKept}
-use Rattle.search.specs.Search.{LowestCut, Moved, every}
-use Rattle.search.proofs.Moving.{Located, moved_channels, moved_before, search_found, moved_process, search_none, search_move, search_less}
+use Rattle.search.specs.Search.{LowestCut}
 use Rattle.search.proofs.eliminate.eliminate.Given as goal
 
 abbrev pub invariant-loop-cut : goal.invariant-loop-cut

@@ -1,5 +1,4 @@
 -- `first_behind` meets its contract: whoever is named has to move, by the law of a false clause or of the clocks.
-use borrow.Author.Rules.{rules}
 use Rattle.search.proofs.Moving.{moved_clause, moved_clocks, in_table}
 use Rattle.search.proofs.eliminate.first_behind.Goals as goal
 

@@ -1,5 +1,4 @@
 -- `search` meets its contract: state 1 everywhere is at or below every satisfying cut, and nothing is sent or received there.
-use borrow.Author.Rules.{rules}
 use native.Mathlib.Omega.{arith}
 use mathlib.Core.Path.{sym, subst}
 use lib.ListN.{replicate}

@@ -1,5 +1,4 @@
 -- `channel_mover` meets its contract: the row has the number of messages in transit on the clause's channel, by which the clause is tested and its end named.
-use borrow.Author.Rules.{rules}
 use native.Mathlib.Omega.{arith}
 use mathlib.Core.Path.{◌≡◌}
 use Prim.Native.Nat.{◌<◌}

@@ -1,5 +1,4 @@
 -- `end_named` meets its contract: the test says which of the channel's ends, which are processes of the run.
-use borrow.Author.Rules.{rules}
 use native.Mathlib.Omega.{arith}
 use mathlib.Core.Path.{sym, ◌∙◌}
 use Rattle.run.specs.Said.{run_in}

@@ -1,7 +1,5 @@
 -- `satisfied` meets its contract: a clause that is false, or a clock that is too far, denies it; where there is neither, the cut satisfies. The channel
 -- clauses are asked beside the counts that the listing wrote.
-use borrow.Author.Rules.{rules}
-use borrow.Author.Tests.{not-false}
 use native.Mathlib.Omega.{arith}
 use mathlib.Core.Path.{refl, ap, ◌∙◌}
 use mathlib.Core.Bool.{not}
