@@ -24,7 +24,14 @@ SPEAKS = re.compile(
     rf"(?i)\b(?:refus\w*|number|reason)\W+(?:[a-z]+\W+){{0,3}}{GIVEN_UP}\b"
     rf"|\d to {GIVEN_UP}\b|\b{GIVEN_UP} (?:early|last|comes|is|isn't)\b"
 )
-TEXTS = ("README.md", "docs/**/*.md", "crates/*/**/*.rt", "crates/*/**/*.antt", "crates/*/**/*.edit")
+TEXTS = (
+    "README.md",
+    "docs/**/*.md",
+    "crates/*/src/**/*.rt",
+    "crates/*/specs/**/*.antt",
+    "crates/*/proofs/**/*.antt",
+    "crates/*/must-fail/*.edit",
+)
 
 # The numbers of one call: of the run, and of the condition.
 Numbers = tuple[list[int], list[int]]
