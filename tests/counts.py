@@ -20,16 +20,23 @@ MOST_PARTS = 3
 MOST_STEPS_BACK = 5
 MOST_UNTITLED_LINES = 30
 
-FUNCTION = re.compile(r'( *)(?:[\w"()]+ )*fn (\w+)(?:<[^(]*>)?\(')
+FUNCTION = re.compile(r'( *)(?:[\w"()]+ )*fn (\w+)(?:<.*?>)?\(')
 REQUIRES = re.compile(r"(?ms)^ *requires\b(.*?)(?=^ *(?:requires|ensures)\b|^ *\{$)")
-STEPS_BACK = re.compile(r"(?:\.before ?){%d,}" % (MOST_STEPS_BACK + 1))
+# What a function's proof may consist of.
+PROOFS = ("Invariants.antt", "Answers.antt", "Proof.antt")
+# Steps are of a proof that walks the code by hand. One of invariants and answers names a place by what stands there,
+# and `goal.at` leads to it, so that it takes no step.
+STEPS_BACK = re.compile(r"(?:\.before){%d,}" % (MOST_STEPS_BACK + 1))
 # A place of a proof that gets a name is as far back as it is, and said once.
-NAMED_PLACE = re.compile(r"^[\w·′-]+ \w+ = \w+(?: \.before)+$")
+NAMED_PLACE = re.compile(r"^[\w'-]+ \w+ = \w+(?:\.before)+$")
 # Two numbers that differ contradict each other: one lemma says so for all.
-CONTRADICTION = "_≡_ {A = ℕ} 0 1 = cc"
+CONTRADICTION = "◌≡◌ {A = ℕ} 0 1 = cc"
 
-IMPORT = re.compile(r"(?:ghost )?use (\S+?)(?:\.\{(.*)\})?(?: as (\S+?))?;?$")
+# It may go over several lines, and in src/ have braces within its braces.
+IMPORT = re.compile(r"(?m)^(?:ghost )?use ([^\s;{]+?)(?:(?:\.|::)\{([^;]*?)\})?(?: as (\S+?))?;?$")
 COMMENT = re.compile(r"(?m)(?:--|//).*$")
+# Traits that are imported for what they let be called: their names needn't stand there.
+CALLED = {"Read": r"\.read\w*\(", "Write": r"\bwrite(?:ln)?!|\.(?:write|flush)\w*\("}
 
 BRACKETS = ("([{", ")]}")
 TYPE_BRACKETS = ("([{<", ")]}>")
@@ -139,8 +146,8 @@ def long_functions(crate: Path) -> Iterator[Offence]:
 
 def many_parts(crate: Path) -> Iterator[Offence]:
     for function in functions(crate):
-        asked = "".join(REQUIRES.findall(function.text))
-        stated = re.findall(r"(?s)⌜(.*?)⌝", asked)
+        # Behind its brace; with two of them each has a name ahead of it.
+        stated = [clause.partition("{")[2] for clause in REQUIRES.findall(function.text)]
         count = sum(len(flat_parts(part, "×", BRACKETS)) for part in stated)
         if count > MOST_PARTS:
             yield Offence(function.where, f"{count} parts")
@@ -168,31 +175,36 @@ def untitled_proofs(crate: Path) -> Iterator[Offence]:
     for path in proofs(crate):
         count = len(text_of(path).splitlines())
         titled = text_of(path).startswith("--")
-        if path.name == "Proof.antt" and count > MOST_UNTITLED_LINES and not titled:
+        if path.name in PROOFS and count > MOST_UNTITLED_LINES and not titled:
             yield Offence(place_of(path, crate), f"{count} lines")
 
 
 def unused_imports(crate: Path) -> Iterator[Offence]:
     for path in (*sources(crate), *definitions(crate), *proofs(crate)):
-        lines = text_of(path).splitlines()
-        imports = [found for found in map(IMPORT.match, lines) if found]
-        rest = COMMENT.sub("", "\n".join(line for line in lines if not IMPORT.match(line)))
-        unused = [name for found in imports for name in imported(found) if not is_used(name, rest)]
+        text = text_of(path)
+        rest = COMMENT.sub("", IMPORT.sub("", text))
+        unused = [name for found in IMPORT.finditer(text) for name in imported(found) if not is_used(name, rest)]
         if unused:
             yield Offence(place_of(path, crate), ", ".join(unused))
 
 
 def imported(found: re.Match[str]) -> list[str]:
-    if found[2]:
-        return [name.partition(" as ")[2] or name for name in found[2].split(", ")]
-    return [found[3] or re.split(r"::|\.", found[1])[-1]]
+    """The names by which the rest of the file calls what a `use` brings in."""
+    last = re.split(r"::|\.", found[1])[-1]
+    if found[2] is None:
+        return [found[3] or last]
+    leaves = [leaf.strip() for leaf in re.split(r"[{},]", found[2])]
+    names = [re.split(r" as |::", leaf)[-1] for leaf in leaves if leaf and not leaf.endswith("::")]
+    return [last if name == "self" else name for name in names]
 
 
 def is_used(name: str, text: str) -> bool:
     """An operator's arguments stand between its parts, so only its parts are looked for."""
-    if "_" in (name[0], name[-1]):
-        return all(part in text for part in name.split("_") if part)
-    return re.search(rf"(?<![\w′·-]){re.escape(name)}(?![\w′-])", text) is not None
+    if "◌" in name:
+        return all(part in text for part in name.split("◌"))
+    if re.search(CALLED.get(name, "$^"), text) or name == "_":
+        return True
+    return re.search(rf"(?<![\w'-]){re.escape(name)}(?![\w'-])", text) is not None
 
 
 def contradictions(root: Path) -> Iterator[Offence]:

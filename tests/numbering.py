@@ -24,7 +24,14 @@ SPEAKS = re.compile(
     rf"(?i)\b(?:refus\w*|number|reason)\W+(?:[a-z]+\W+){{0,3}}{GIVEN_UP}\b"
     rf"|\d to {GIVEN_UP}\b|\b{GIVEN_UP} (?:early|last|comes|is|isn't)\b"
 )
-TEXTS = ("README.md", "docs/**/*.md", "crates/*/**/*.rt", "crates/*/**/*.antt", "crates/*/**/*.edit")
+TEXTS = (
+    "README.md",
+    "docs/**/*.md",
+    "crates/*/src/**/*.rt",
+    "crates/*/specs/**/*.antt",
+    "crates/*/proofs/**/*.antt",
+    "crates/*/must-fail/*.edit",
+)
 
 # The numbers of one call: of the run, and of the condition.
 Numbers = tuple[list[int], list[int]]
@@ -83,10 +90,10 @@ def listed(root: Path, name: str) -> list[int]:
 
 def proved(root: Path) -> dict[str, Numbers]:
     """By the theorems, each of which has its calls in the comment above it."""
-    pattern = r"(?m)^ *-- .*?((?:`\w+`(?:, )?)+)\n *pub \w+-gives : .*→ Gives \((.*)\) (\S+) x$"
+    pattern = r"(?m)^ *-- .*?((?:`\w+`(?:, )?)+)\n *pub \w+_gives : .*→ Gives \((.*)\) (\S+) x$"
     calls: dict[str, Numbers] = {}
     for names, of_run, of_condition in re.findall(pattern, (root / THEOREMS).read_text("utf-8")):
-        own = listed(root, "runNumbers") if "runNumbers" in of_run else []
+        own = listed(root, "run_numbers") if "run_numbers" in of_run else []
         run = own + numbers_by(r"(\d+)", of_run)
         condition = [] if of_condition == "[]" else listed(root, of_condition)
         calls.update((name, (run, condition)) for name in re.findall(r"`(\w+)`", names))

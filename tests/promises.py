@@ -16,7 +16,9 @@ from reporting import Check
 DOCUMENT = "docs/CONTRACTS.md"
 CALLS, EXCEPTIONS = "# Contracts\n", "\n## Exceptions\n"
 PUBLIC = re.compile(r"(?ms)^pub fn (\w+)(.*?)(?:^\{| \{$)")
-EQUATION = re.compile(r"ensures \{ λ r\. ⌜ r ≡ [^⌝]* ⌝ \}")
+# A clause has a name where there are two of its kind.
+ASKS = re.compile(r"\brequires(?: \w+)?\s*\{")
+EQUATION = re.compile(r"\bensures(?: \w+)?\s*\{\s*result\s+≡\s")
 
 
 class Call(NamedTuple):
@@ -27,7 +29,7 @@ class Call(NamedTuple):
 
     @property
     def asks(self) -> bool:
-        return "requires {" in self.text
+        return ASKS.search(self.text) is not None
 
     @property
     def is_equation(self) -> bool:
@@ -73,11 +75,11 @@ def determined(root: Path) -> set[str]:
     """The calls for which a theorem of the repository is named."""
     laws = set()
     for path in root.glob("crates/*/proofs/*.antt"):
-        laws.update(re.findall(r"(?m)^ *pub ([\w-]+) :", path.read_text("utf-8")))
+        laws.update(re.findall(r"(?m)^ *pub ([\w'-]+) :", path.read_text("utf-8")))
     return {
         call
         for calls, cells in rows(section(root, CALLS))
-        if any(name in laws for name in re.findall(r"`([\w-]+)`", cells[2]))
+        if any(name in laws for name in re.findall(r"`([\w'-]+)`", cells[2]))
         for call in calls
     }
 

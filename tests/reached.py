@@ -16,13 +16,15 @@ from typing import Iterator, NamedTuple, Optional
 # Public whatever else uses them, as far as they are there.
 PUBLIC = ("answers", "checker", "questions", "reader")
 
-NAME = re.compile(r"[\w′·-]+(?:\.[\w′·-]+)?")
+NAME = re.compile(r"[\w'-]+(?:\.[\w'-]+)?")
 USE = re.compile(r"(?:ghost )?use (\S+?)(?:\.\{(.*)\})?(?: as (\w+))?;?$")
-SPEC = re.compile(r"Rattle·(\w+)(?:·specs\.specs|\.specs)\.(?!declared)([^.]+)(?:\.([^.]+).*)?")
+# One form for the own crate and others. `Rattle.std`, the library's words, is no crate of the repository, and
+# `declared` has the types of src/.
+SPEC = re.compile(r"Rattle\.(?!std\.)(\w+)\.specs\.(?!declared\b)([^.]+)(?:\.([^.]+).*)?")
 HEAD = re.compile(
     r"(?:pub )?(?:data|record) (?P<type>\S+).*where|(?:unfoldable |abbrev )(?:pub )?(?P<value>\S+) :"
 )
-VARIANTS = re.compile(r"\s+([\w′·-]+(?: [\w′·-]+)*) :")
+VARIANTS = re.compile(r"\s+([\w'-]+(?: [\w'-]+)*) :")
 # A file of functions that other crates can't name.
 INNER_MODULE = re.compile(r"^mod (\w+);$", re.M)
 CONTRACT = re.compile(
@@ -63,9 +65,10 @@ def scope_of(lines: list[str]) -> Scope:
         module = Module(spec[1], spec[2])
         if use[3]:
             scope[use[3]] = (module, None)
-        for name in (use[2] or "").replace(",", " ").split():
+        for imported in (use[2] or "").split(", "):
+            name, _, other = imported.partition(" as ")
             # What is imported from within a type is a variant of that type.
-            scope[name] = (module, spec[3] or name)
+            scope[other or name] = (module, spec[3] or name)
     return scope
 
 
@@ -146,14 +149,14 @@ def public_crates(root: Path) -> list[str]:
     """The libraries that no other library uses, and those that are public in any case."""
     lines = (root / "crates.txt").read_text("utf-8").splitlines()
     uses = {name.strip(): used.split() for name, _, used in (line.partition(":") for line in lines)}
-    libraries = [crate for crate in uses if not is_program(root, crate, uses[crate])]
+    libraries = [crate for crate in uses if not is_program(root, crate)]
     used = {crate for library in libraries for crate in uses[library]}
     outer = [crate for crate in libraries if crate in PUBLIC or crate not in used]
     return [crate for crate in outer if any(contracts(root, crate))]
 
 
-def is_program(root: Path, crate: str, uses: list[str]) -> bool:
-    return "libc" in uses or (root / "crates" / crate / "src" / "main.rt").exists()
+def is_program(root: Path, crate: str) -> bool:
+    return (root / "crates" / crate / "src" / "main.rt").exists()
 
 
 def contracts(root: Path, crate: str) -> Iterator[tuple[str, Scope]]:

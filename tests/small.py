@@ -41,24 +41,29 @@ def write(root: Path, small: Small, change: Optional[Change] = None) -> None:
 
 SOURCE = "crates/small/src/lib.rt"
 PROOF = "crates/small/proofs/large/Proof.antt"
-SHORT_PROOF = "crates/small/proofs/short/Proof.antt"
+SHORT_PROOF = "crates/small/proofs/short/Answers.antt"
 
-STEPS = " .before" * 5
+STEPS = ".before" * 5
 LINE, PROVED = "    let same = a;\n", "more c = refl\n"
-CONTRADICTED = "differ e = let z : _≡_ {A = ℕ} 0 1 = cc in omega arith\n"
+CONTRADICTED = "differ e = let z : ◌≡◌ {A = ℕ} 0 1 = cc in omega arith\n"
 
 AT_THE_BOUNDS = Small(
     "a crate at every bound",
     {
         SOURCE: "// " + "x" * 157 + """
-pub fn large<'a>(a: u16, b: Pair<u8, u16>, c: [u8; 2], d: (u8, u8), e: u16, f: u16, g: &'a [u16]) -> u16
-    requires { ⌜ (a ≤ e) × ((e ≤ f) × (f ≤ 512)) × (length (now g) ≡ 8) ⌝ }
-    ensures { λ r. ⌜ (r ≤ 512) × (a ≤ r) × (e ≤ r) × (f ≤ r) ⌝ }
+ghost use Rattle.std.specs.Prelude.{◌≡◌, ◌≤◌, length};
+
+use model::{Kind, pairs::{Pair}};
+
+pub fn large<'a>(a: u16, b: Pair<u8, Kind>, c: [u8; 2], d: (u8, u8), e: u16, f: u16, g: &'a [u16]) -> u16
+    requires order { (a ≤ e) × ((e ≤ f) × (f ≤ 512)) }
+    requires long { length g.now ≡ 8 }
+    ensures { (result ≤ 512) × (a ≤ result) × (e ≤ result) × (f ≤ result) }
 {
-""" + LINE * 33 + "    f\n}\n",
+""" + LINE * 32 + "    f\n}\n",
         PROOF: "-- large meets its contract\n"
-        + f"first c = c{STEPS} .before .before\n"
-        + f"returns c = first c{STEPS} .pre\n"
+        + f"first c = c{STEPS}.before.before\n"
+        + f"returns c = (first c){STEPS}.pre\n"
         + CONTRADICTED
         + PROVED * 30,
         SHORT_PROOF: PROVED * 30,
@@ -71,18 +76,20 @@ pub fn large<'a>(a: u16, b: Pair<u8, u16>, c: [u8; 2], d: (u8, u8), e: u16, f: u
                ("small/src/lib.rt: at line 1",)),
         Change("a fourth part of a requires", SOURCE, "((e ≤ f) × (f ≤ 512))", "(e ≤ f) × (f ≤ 512)",
                ("small/large: 4 parts",)),
-        Change("six times .before", PROOF, f"first c{STEPS}", f"first c{STEPS} .before",
+        Change("six times .before", PROOF, f"(first c){STEPS}", f"(first c){STEPS}.before",
                ("small/proofs/large/Proof.antt: at line 3",)),
-        Change("a place with more than a name", PROOF, ".before\n", ".before .pre\n",
+        Change("a place with more than a name", PROOF, ".before\n", ".before.pre\n",
                ("small/proofs/large/Proof.antt: at line 2",)),
         Change("a long proof that opens with no comment", PROOF, "-- large meets its contract\n", "",
                ("small/proofs/large/Proof.antt: 33 lines",)),
         Change("a thirty-first line with no comment", SHORT_PROOF, PROVED, PROVED * 2,
-               ("small/proofs/short/Proof.antt: 31 lines",)),
-        Change("an import that nothing uses", SHORT_PROOF, PROVED, "use lib.ListN.{length, _++_}\n",
-               ("small/proofs/short/Proof.antt: length, _++_",)),
+               ("small/proofs/short/Answers.antt: 31 lines",)),
+        Change("an import that nothing uses", SHORT_PROOF, PROVED, "use Rattle.std.proofs.Common.{length, ◌++◌}\n",
+               ("small/proofs/short/Answers.antt: length, ◌++◌",)),
+        Change("imports of a source that nothing uses", SOURCE, "Pair<u8, Kind>", "u8",
+               ("small/src/lib.rt: Kind, Pair",)),
         Change("a contradiction said twice", SHORT_PROOF, PROVED, CONTRADICTED,
-               ("small/proofs/large/Proof.antt: 1 of them", "small/proofs/short/Proof.antt: 1 of them")),
+               ("small/proofs/large/Proof.antt: 1 of them", "small/proofs/short/Answers.antt: 1 of them")),
     ),
 )
 
@@ -97,27 +104,29 @@ ALL_LISTED = Small(
     "a repository whose document lists what has to be believed",
     {
         "crates.txt": "words:\nchecker: words\ntheorems: words checker\n",
-        BOUNDS: "-- how much there may be\nabbrev pub limit : ℕ\nlimit = 8\n",
-        TABLES: "pub record Roomy (n : ℕ) : Type 0 where\n  pub room : n ≤ 8\n",
+        BOUNDS: "use Rattle.std.specs.Prelude.{ℕ}\n\n-- how much there may be\nabbrev pub limit : ℕ\nlimit = 8\n",
+        TABLES: "use Rattle.std.specs.Prelude.{ℕ, ◌≤◌}\n\npub record Roomy (n : ℕ) : Type 0 where\n  pub room : n ≤ 8\n",
         ANSWERED: """\
-use Rattle·words.specs.Bounds.{limit}
+use Rattle.std.specs.Prelude.{ℕ, ◌≤◌}
+use Rattle.words.specs.Bounds.{limit}
 
 pub data Answered (n : ℕ) : ℕ → Type 0 where
   few : n ≤ limit → Answered n n
 """,
         CALLS: """\
-ghost use Rattle·words.specs.Tables.{Roomy};
-ghost use Rattle·checker·specs.specs.Answered.{Answered};
+ghost use Rattle.std.specs.Prelude.{◌≡◌};
+ghost use Rattle.words.specs.Tables.{Roomy};
+ghost use Rattle.checker.specs.Answered.{Answered};
 
 fn inner(n: u16) -> u16
-    requires { ⌜ Roomy n ⌝ }
-    ensures { λ r. ⌜ r ≡ n ⌝ }
+    requires { Roomy n }
+    ensures { result ≡ n }
 {
     n
 }
 
 pub fn answer(n: u16) -> u16
-    ensures { λ r. ⌜ Answered n r ⌝ }
+    ensures { Answered n result }
 {
     inner(n)
 }
@@ -145,7 +154,7 @@ Inner words: `{TABLES}`
                (f"{TABLES} is listed, and isn't one", f"{TABLES} isn't listed")),
         Change("an inner word among those to be believed", BOUNDS, "-- how", "abbrev pub few : ℕ\nfew = 4\n\n-- how",
                ("to be believed: limit", "inner: few")),
-        Change("a public contract with an inner word", CALLS, "⌜ Answered", "⌜ Roomy n × Answered",
+        Change("a public contract with an inner word", CALLS, "{ Answered", "{ Roomy n × Answered",
                (f"{TABLES} isn't listed", f"{TABLES} is listed, and isn't one")),
     ),
 )
@@ -160,19 +169,19 @@ EXCEPTIONS_LISTED = Small(
     {
         LIBRARY: """\
 pub fn whole(n: u16) -> u16
-    ensures { λ r. ⌜ r ≡ n ⌝ }
+    ensures { result ≡ n }
 {
     n
 }
 
 pub fn lent(row: &mut [u16])
-    ensures { λ _. ⌜ Wrote (now (row .exit)) ⌝ }
+    ensures { Wrote row.new }
 {
 }
 
 pub fn asks(n: u16) -> u16
-    requires { ⌜ n < 8 ⌝ }
-    ensures { λ r. ⌜ r ≡ n ⌝ }
+    requires { n < 8 }
+    ensures { result ≡ n }
 {
     n
 }
@@ -180,11 +189,11 @@ pub fn asks(n: u16) -> u16
 pub fn says(n: u16) {
 }
 """,
-        LAWS: "pub lent-one : ℕ\n",
+        LAWS: "pub lent_one : ℕ\n",
         LISTING: """\
 # Contracts
 
-| `small::lent` | what was written | `lent-one` |
+| `small::lent` | what was written | `lent_one` |
 
 ## Exceptions
 
@@ -196,11 +205,11 @@ pub fn says(n: u16) {
                ("its contract isn't whole, and it isn't listed",)),
         Change("no contract, and not listed", LISTING, ", `says`", "",
                ("its contract isn't whole, and it isn't listed",)),
-        Change("a lent row with no theorem", LAWS, "lent-one", "lent-two",
+        Change("a lent row with no theorem", LAWS, "lent_one", "lent_two",
                ("its contract isn't whole, and it isn't listed",)),
-        Change("an exception that asks nothing", LIBRARY, "    requires { ⌜ n < 8 ⌝ }\n", "",
+        Change("an exception that asks nothing", LIBRARY, "    requires { n < 8 }\n", "",
                ("it is listed, and its contract is whole",)),
-        Change("less than an equation", LIBRARY, "⌜ r ≡ n ⌝", "⌜ r ≤ n ⌝",
+        Change("less than an equation", LIBRARY, "{ result ≡ n }", "{ result ≤ n }",
                ("its contract isn't whole, and it isn't listed",)),
         Change("an exception that is no function", LISTING, "`says`", "`says`, `sings`",
                ("small::sings is no public call",)),
@@ -220,15 +229,15 @@ REFUSALS = "docs/REFUSALS.md"
 NUMBERED = Small(
     "a repository whose refusals have the same numbers everywhere",
     {
-        REASONS: "number tooLong = 1\nnumber cutShort = 2\n-- 18 isn't used again\n",
+        REASONS: "number too_long = 1\nnumber cut_short = 2\n-- 18 isn't used again\n",
         CONSTANTS: "pub const TOO_LONG: u16 = 1;\n\npub const CUT_SHORT: u16 = 2;\n",
         SECOND: "TOO_LONG = 1\nCUT_SHORT = 2\n\nOTHER = 18\n",
         BASELINE: "enum reason {\n    ACCEPTED,\n    TOO_LONG,\n    CUT_SHORT\n};\n",
-        LISTS: "runNumbers = 1 ∷ []\n\nconditionNumbers = 2 ∷ []\n",
+        LISTS: "run_numbers = 1 ∷ []\n\ncondition_numbers = 2 ∷ []\n",
         THEOREMS: """\
   -- `first_cut`, `listed`
-  pub search-gives : Answered s (A.Refused x) → Gives (runNumbers ++ (2 ∷ [])) conditionNumbers x
-  search-gives w = w
+  pub search_gives : Answered s (A.Refused x) → Gives (run_numbers ++ (2 ∷ [])) condition_numbers x
+  search_gives w = w
 """,
         REFUSALS: """\
 | 1 | too long |
@@ -279,7 +288,7 @@ Older handbooks list a refusal 18, which no file can give.
                tuple(f"proved ([1, 3], [2]), in {REFUSALS} ([1, 2], [2])" for call in ("first_cut", "listed"))),
         Change("a call that no theorem has", THEOREMS, ", `listed`", "",
                (f"proved None, in {REFUSALS} ([1, 2], [2])",)),
-        Change("no theorem", THEOREMS, "-gives", "-says",
+        Change("no theorem", THEOREMS, "_gives", "_says",
                ("no theorem says what a call gives", *[f"proved None, in {REFUSALS} ([1, 2], [2])"] * 2)),
     ),
 )
