@@ -31,6 +31,8 @@ FOUR_LINES = "found\nstate 0 2\nstate 1 1\nchannel 0 1 5\n"
 UNREADABLE_RUN, UNREADABLE_CONDITION = "unreadable run\n", "unreadable cond\n"
 LONGEST_PATH = 4_096
 LONG_FOLDER = "/".join(["a" * 200] * 10)
+# Bytes that are no UTF-8, as Python hands them to the system.
+NOT_TEXT = "run \udcff"
 STAMPS = (-2147483648, -1, 0, 2147483647)
 
 
@@ -62,9 +64,9 @@ class Situation(NamedTuple):
 def reasons(top: Path, situation: Situation) -> str:
     """A line for each file that can't be read: its name, and why."""
     return "".join(
-        f"{named(name)}: {os.strerror(number)}\n"
+        f"{named(name)}: {reason}\n"
         for name in situation.files
-        for number in error_of(top / situation.folder, name)
+        for reason in reason_of(top / situation.folder, name)
     )
 
 
@@ -73,12 +75,23 @@ def named(name: str) -> str:
     return name if len(name) < LONGEST_PATH else ""
 
 
-def error_of(folder: Path, name: str) -> list[int]:
+def is_text(name: str) -> bool:
+    """Whether the name's bytes are UTF-8: the library opens no others."""
+    try:
+        os.fsencode(name).decode("utf-8")
+    except UnicodeDecodeError:
+        return False
+    return True
+
+
+def reason_of(folder: Path, name: str) -> list[str]:
+    if not is_text(name):
+        return ["The name is not UTF-8"]
     try:
         with open(os.path.join(folder, name) if named(name) else "", "rb") as file:
             file.read(1)
     except OSError as error:
-        return [error.errno]
+        return [os.strerror(error.errno)]
     return []
 
 
@@ -99,6 +112,7 @@ def write_files(top: Path) -> None:
         write(top / folder / "cond.rec", three)
     for folder in ("neither", "folder in place of run/run.rec", "folder in place of cond/cond.rec"):
         (top / folder).mkdir()
+    write(top / NOT_TEXT, two_desks())
     write(top / "wrong clock", marked_wrong_clock())
     write(top / "empty", b"")
     for size in (65_535, 65_536, 200_000):
@@ -154,6 +168,8 @@ def unreadable_files() -> Iterator[Situation]:
         ("the run missing, a folder as the condition", ("missing", "example"), UNREADABLE_RUN),
         ("the run refused, a folder as the condition", ("empty", "example"), UNREADABLE_CONDITION),
         ("a file as a folder of the run", ("cond/run", "cond"), UNREADABLE_RUN),
+        ("a run whose name isn't UTF-8", (NOT_TEXT, "cond"), UNREADABLE_RUN),
+        ("a condition whose name isn't UTF-8", ("run", NOT_TEXT), UNREADABLE_CONDITION),
     ):
         yield Situation(name, words, expected)
     for folder, expected in (
@@ -249,5 +265,5 @@ def called(command: list[str], top: Path, situation: Situation) -> Ended:
 
 def is_answer(done: Ended, top: Path, situation: Situation) -> bool:
     """The answer is there in one write, so that no reader sees half of it."""
-    said = reasons(top, situation).encode()
+    said = os.fsencode(reasons(top, situation))
     return done == Ended([situation.expected.encode()], said, situation.status)

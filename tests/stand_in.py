@@ -18,6 +18,7 @@ sys.path[:0] = [str(ROOT / "second"), str(ROOT / "cases")]
 from answer import found_lines, read_file, refused_line  # noqa: E402
 from questions import search  # noqa: E402
 from reading import CONDITION, LONGEST_FILE, MOST_PROCESSES, RUN, Refusal  # noqa: E402
+from situations import is_text  # noqa: E402
 
 # Each mistake with a situation in which it shows.
 MISTAKES = {
@@ -40,6 +41,7 @@ MISTAKES = {
     "status 0 for a file that can't be read": "the run missing",
     "no reason why a file can't be read": "the condition missing",
     "a reason for the run alone": "both missing",
+    "a name that isn't UTF-8 looked up": "a run whose name isn't UTF-8",
     "a write for each line": "two files",
 }
 
@@ -52,6 +54,8 @@ def paths_of(mistake: str, words: list[str]) -> tuple[str, str]:
 
 
 def read_by(mistake: str, path: str) -> Optional[bytes]:
+    if mistake != "a name that isn't UTF-8 looked up" and not is_text(path):
+        return None
     data = read_file(path)
     if mistake == "a folder taken for an empty file" and os.path.isdir(path):
         return b""
@@ -66,6 +70,9 @@ def tell_reasons(mistake: str, paths: tuple[str, str]) -> None:
     """A line on standard error for each file that can't be read."""
     for path in paths[: 1 if mistake == "a reason for the run alone" else 2]:
         name = path.removeprefix("./") if len(path) < 4_096 else ""
+        if mistake != "a name that isn't UTF-8 looked up" and not is_text(name):
+            sys.stderr.buffer.write(os.fsencode(f"{name}: The name is not UTF-8\n"))
+            continue
         try:
             with open(name, "rb") as file:
                 file.read(1)
