@@ -6,6 +6,8 @@ pub mod layout;
 pub mod reading;
 pub mod reasons;
 
+use crate::reasons::Reason;
+
 // The file at fault.
 #[derive(Clone, Copy)]
 pub enum File {
@@ -13,11 +15,11 @@ pub enum File {
     Condition,
 }
 
-// Which file, the refusal's number, the byte place of the record, and whether that record stands after the end.
+// Which file, why, the byte place of the record, and whether that record stands after the end.
 #[derive(Clone, Copy)]
 pub struct Refusal {
     pub file: File,
-    pub number: u16,
+    pub reason: Reason,
     pub place: usize,
     pub after: bool,
 }
@@ -51,11 +53,4 @@ pub enum Record {
     Channel(ChannelFields),
     State(StateFields),
     End,
-}
-
-// A record of a run with the place after it, or else the refusal.
-#[derive(Clone, Copy)]
-pub enum Step {
-    Got(Record, usize),
-    Refused(Refusal),
 }

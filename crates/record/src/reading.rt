@@ -2,14 +2,16 @@
 ghost use Rattle.std.specs.Prelude.{◌≡◌, ◌+◌, ◌≤◌, length};
 ghost use Rattle.record.specs.Layout.{channel_length};
 ghost use Rattle.record.specs.Inner.{values_place};
-ghost use Rattle.record.specs.Record.{length_of, frame_no, head_of, due, opening_no, step_no, channel_fields_at, state_fields_at, record_at, step_at};
+ghost use Rattle.record.specs.Refusal.{passed};
+ghost use Rattle.record.specs.Record.{length_of, check_frame, head_of, due, check_opening, check_step, channel_fields_at, state_fields_at, record_at, step_at};
 
 use crate::bytes::{left_from, u16_at, u32_at};
 use crate::layout::{CHANNEL_LENGTH, HEAD_LENGTH, state_length, states_place};
-use crate::reasons::{CUT_SHORT, FORMAT, KIND, LENGTH, or_if, refusal_of};
-use crate::{ChannelFields, File, Head, Record, StateFields, Step};
+use crate::reasons::{Reason, refusal_of, refuse_if};
+use crate::{ChannelFields, File, Head, Record, Refusal, StateFields};
 
 // The length that the paper's table gives a kind of a run; 0 for any other kind.
+#[tactic(auto, unfolding(crate::specs::Record::length_of))]
 fn length_of(kind: u16, head: Head) -> usize
     ensures { result ≡ length_of kind head }
 {
@@ -23,19 +25,19 @@ fn length_of(kind: u16, head: Head) -> usize
 }
 
 // 2, 3, 2: no length, a length under 4, a body cut short.
-pub fn frame_no(s: &[u8], at: usize) -> u16
-    ensures { result ≡ frame_no s.now at }
+#[tactic(auto, unfolding(crate::specs::Record::check_frame))]
+pub fn check_frame(s: &[u8], at: usize) -> Result<(), Reason>
+    ensures { result ≡ check_frame s.now at }
 {
     let left = left_from(s, at);
-    if left < 2 {
-        return CUT_SHORT;
-    }
+    refuse_if(left < 2, Reason::CutShort)?;
     let length = u16_at(s, at) as usize;
-    let number = or_if(0, length < 4, LENGTH);
-    or_if(number, left < length, CUT_SHORT)
+    refuse_if(length < 4, Reason::WrongLength)?;
+    refuse_if(left < length, Reason::CutShort)
 }
 
 // What the run's head says; zeros where it isn't there.
+#[tactic(auto, unfolding(crate::specs::Record::head_of))]
 pub fn head_of(run: &[u8]) -> Head
     ensures { result ≡ head_of run.now }
 {
@@ -54,6 +56,7 @@ pub fn head_of(run: &[u8]) -> Head
 }
 
 // Whether a kind may stand at a place: the head, then the channels, then states and the end.
+#[tactic(auto, unfolding(crate::specs::Record::due))]
 fn is_due(head: Head, at: usize, kind: u16) -> bool
     ensures { result ≡ due head at kind }
 {
@@ -67,35 +70,32 @@ fn is_due(head: Head, at: usize, kind: u16) -> bool
 }
 
 // 2, 3, 2, 4, 3: the frame, the kind, the kind's length.
-fn opening_no(run: &[u8], head: Head, at: usize) -> u16
+#[tactic(auto, unfolding(crate::specs::Record::check_opening))]
+fn check_opening(run: &[u8], head: Head, at: usize) -> Result<(), Reason>
     requires { head ≡ head_of run.now }
-    ensures { result ≡ opening_no run.now at }
+    ensures { result ≡ check_opening run.now at }
 {
-    let frame = frame_no(run, at);
-    if frame != 0 {
-        return frame;
-    }
+    check_frame(run, at)?;
     let length = u16_at(run, at) as usize;
     let kind = u16_at(run, at + 2);
-    let number = or_if(0, !is_due(head, at, kind), KIND);
-    or_if(number, length != length_of(kind, head), LENGTH)
+    refuse_if(!is_due(head, at, kind), Reason::WrongKind)?;
+    refuse_if(length != length_of(kind, head), Reason::WrongLength)
 }
 
 // The same, then 6.
-fn step_no(run: &[u8], head: Head, at: usize) -> u16
+#[tactic(auto, unfolding(crate::specs::Record::check_step))]
+fn check_step(run: &[u8], head: Head, at: usize) -> Result<(), Reason>
     requires { head ≡ head_of run.now }
-    ensures { result ≡ step_no run.now at }
+    ensures { result ≡ check_step run.now at }
 {
-    let opening = opening_no(run, head, at);
-    if opening != 0 {
-        return opening;
-    }
+    check_opening(run, head, at)?;
     if u16_at(run, at + 2) != 1 {
-        return 0;
+        return Ok(());
     }
-    or_if(0, u16_at(run, at + 4) != 1, FORMAT)
+    refuse_if(u16_at(run, at + 4) != 1, Reason::Format)
 }
 
+#[tactic(auto, unfolding(crate::specs::Record::channel_fields_at))]
 fn channel_fields_at(run: &[u8], at: usize) -> ChannelFields
     requires { at + channel_length ≤ length run.now }
     ensures { result ≡ channel_fields_at run.now at }
@@ -106,6 +106,7 @@ fn channel_fields_at(run: &[u8], at: usize) -> ChannelFields
     ChannelFields { number, from, to }
 }
 
+#[tactic(auto, unfolding(crate::specs::Record::state_fields_at))]
 pub fn state_fields_at(run: &[u8], at: usize) -> StateFields
     requires { at + values_place ≤ length run.now }
     ensures { result ≡ state_fields_at run.now at }
@@ -125,8 +126,9 @@ pub fn state_fields_at(run: &[u8], at: usize) -> StateFields
 }
 
 // What stands in the record at a place, whose opening is right.
+#[tactic(auto, unfolding(crate::specs::Record::record_at))]
 fn record_at(run: &[u8], head: Head, at: usize) -> Record
-    requires { (head ≡ head_of run.now) × (opening_no run.now at ≡ 0) }
+    requires { (head ≡ head_of run.now) × (check_opening run.now at ≡ passed) }
     ensures { result ≡ record_at run.now at }
 {
     let kind = u16_at(run, at + 2);
@@ -139,22 +141,20 @@ fn record_at(run: &[u8], head: Head, at: usize) -> Record
 }
 
 // The record at a place of a run with the place after it, or else the refusal.
-pub fn step(run: &[u8], at: usize) -> Step
+pub fn step(run: &[u8], at: usize) -> Result<(Record, usize), Refusal>
     ensures { result ≡ step_at run.now at }
 {
     step_beside(run, head_of(run), at)
 }
 
 // The same beside the run's head, which a pass reads once.
-pub fn step_beside(run: &[u8], head: Head, at: usize) -> Step
+#[tactic(auto, unfolding(crate::specs::Record::step_at))]
+pub fn step_beside(run: &[u8], head: Head, at: usize) -> Result<(Record, usize), Refusal>
     requires { head ≡ head_of run.now }
     ensures { result ≡ step_at run.now at }
 {
-    let number = step_no(run, head, at);
-    if number != 0 {
-        return Step::Refused(refusal_of(File::Run, number, at));
-    }
+    check_step(run, head, at).map_err(|reason| refusal_of(File::Run, reason, at))?;
     let next = at + u16_at(run, at) as usize;
     let record = record_at(run, head, at);
-    Step::Got(record, next)
+    Ok((record, next))
 }

@@ -1,68 +1,73 @@
 // The refusals by name. specs/Refusal.antt ties each name to the paper's number.
 ghost use Rattle.std.specs.Prelude.{◌≡◌};
-ghost use Rattle.record.specs.Refusal.{or_if, or_else, refusal};
+ghost use Rattle.record.specs.Refusal.{number, refuse_if, refusal};
 
 use crate::{File, Refusal};
 
-pub const TOO_LONG: u16 = 1;
+// Why a record, a file or a question is refused.
+#[derive(Clone, Copy, PartialEq, Eq)]
+pub enum Reason {
+    TooLong,
+    CutShort,
+    WrongLength,
+    WrongKind,
+    Limit,
+    Format,
+    Name,
+    Field,
+    Start,
+    Side,
+    Pairing,
+    Circle,
+    Clock,
+    NotLinear,
+    NoRoom,
+    WrongCut,
+    NoChannel,
+}
 
-pub const CUT_SHORT: u16 = 2;
+// The paper's number. 18 isn't used again: older handbooks list it, and no file could give it.
+impl From<Reason> for u16 {
+    ghost from_gives = { λ reason n. n ≡ number reason };
 
-pub const LENGTH: u16 = 3;
-
-pub const KIND: u16 = 4;
-
-pub const LIMIT: u16 = 5;
-
-pub const FORMAT: u16 = 6;
-
-pub const NAME: u16 = 7;
-
-pub const FIELD: u16 = 8;
-
-pub const START: u16 = 9;
-
-pub const SIDE: u16 = 10;
-
-pub const PAIRING: u16 = 11;
-
-pub const CIRCLE: u16 = 12;
-
-pub const CLOCK: u16 = 13;
-
-pub const NOT_LINEAR: u16 = 14;
-
-pub const NO_ROOM: u16 = 15;
-
-pub const CUT: u16 = 16;
-
-pub const CHANNEL: u16 = 17;
-
-// The number so far where it is a refusal; else n where the test says so.
-pub fn or_if(number: u16, test: bool, n: u16) -> u16
-    ensures { result ≡ or_if number test n }
-{
-    if number == 0 {
-        if test { n } else { 0 }
-    } else {
-        number
+    fn from(reason: Reason) -> u16 {
+        match reason {
+            Reason::TooLong => 1,
+            Reason::CutShort => 2,
+            Reason::WrongLength => 3,
+            Reason::WrongKind => 4,
+            Reason::Limit => 5,
+            Reason::Format => 6,
+            Reason::Name => 7,
+            Reason::Field => 8,
+            Reason::Start => 9,
+            Reason::Side => 10,
+            Reason::Pairing => 11,
+            Reason::Circle => 12,
+            Reason::Clock => 13,
+            Reason::NotLinear => 14,
+            Reason::NoRoom => 15,
+            Reason::WrongCut => 16,
+            Reason::NoChannel => 17,
+        }
     }
 }
 
-// The number so far where it is a refusal; else the next chain's.
-pub fn or_else(number: u16, next: u16) -> u16
-    ensures { result ≡ or_else number next }
+// One test of a chain: a record that fails it is refused.
+#[tactic(auto, unfolding(crate::specs::Refusal::refuse_if))]
+pub fn refuse_if(test: bool, reason: Reason) -> Result<(), Reason>
+    ensures { result ≡ refuse_if test reason }
 {
-    if number == 0 { next } else { number }
+    if test { Err(reason) } else { Ok(()) }
 }
 
 // A refusal of a record that doesn't stand after the end.
-pub fn refusal_of(file: File, number: u16, place: usize) -> Refusal
-    ensures { result ≡ refusal file number place }
+pub fn refusal_of(file: File, reason: Reason, place: usize) -> Refusal
+    ensures { result ≡ refusal file reason place }
 {
     Refusal {
         file,
-        number,
+        reason,
         place,
         after: false,
     }
