@@ -1,27 +1,30 @@
 -- What an accepted record tells beside what is known so far.
-use mathlib.Core.Path.{◌≡◌, refl, ap, ◌∙◌, subst}
+use mathlib.Core.Path.{◌≡◌, refl, sym, ap, ◌∙◌, subst}
 use mathlib.Core.Logic.{⊎_elim}
 use mathlib.Core.Bool.{Bool, true, false, not, ◌&&◌, ◌||◌}
 use mathlib.Core.List.{List}
 use Prim.Native.Nat.{ℕ, zero, suc, ◌+◌, ◌≤◌, ◌<◌}
 use native.Mathlib.Nat.{eq-or-lt_of_le}
+use native.Mathlib.Numerals.{add-one}
 use native.Mathlib.Omega.{arith}
 use borrow.Author.Tests.{ltb-false, lt-ltb, leb-false, eqb-true, eqb-false, eq-eqb, ne_eqb, not-false}
-use lib.Dec.{eqb, leb}
-use lib.ListN.{length, get_or}
+use lib.Dec.{eqb}
+use lib.ListN.{length, get_or, take}
+use Rattle.std.specs.List.{list_any}
+use Rattle.std.proofs.lemmas.List.Folds.{list_any_more}
 use Rattle.model.proofs.Numbers.{never, positive}
 use Rattle.record.specs.Layout.{channel_place, state_length}
 use Rattle.record.specs.Inner.{states_place}
-use Rattle.record.specs.Refusal.{or_else}
-use Rattle.record.specs.Refusal.Reason.{limit, name, field, start, side}
-use Rattle.record.specs.Record.{length_at, length_of, head_of, opening_no, state_fields_at, record_at}
+use Rattle.record.specs.Refusal.{passed}
+use Rattle.record.specs.declared.reasons.Reason.TheVariants.{Limit, Name, Field, Start, Side}
+use Rattle.record.specs.Record.{length_at, length_of, head_of, check_opening, state_fields_at, record_at}
 use Rattle.record.specs.declared.Record.TheVariants as R
 use Rattle.record.specs.declared.Head.{Head}
 use Rattle.record.specs.declared.ChannelFields.{ChannelFields}
 use Rattle.record.specs.declared.StateFields.{StateFields}
-use Rattle.record.proofs.Laws.{or_if_ok, or_else_ok, or_if_stop, or_else_stop, opened, opened_whole, by_place}
+use Rattle.record.proofs.Laws.{then_ok, refuse_if_ok, opened, opened_whole, by_place}
 use Rattle.states.specs.States.{channel_at}
-use Rattle.states.specs.Judge.{head_no, channel_no, name_no, field_no, start_no, side_no, state_no, lacks}
+use Rattle.states.specs.Judge.{check_head, check_channel, check_names, check_fields, check_start, check_side, check_state, lacks}
 
 -- a test of two halves that doesn't fail
 half : (a b : Bool) → (a && b) ≡ false → a ≡ true → b ≡ false
@@ -38,13 +41,16 @@ pub record HeadOk (h : Head) : Type 0 where
   pub few : h.processes ≤ 8
   pub channels : h.channels ≤ 16
 
-pub head_ok : (h : Head) → head_no h ≡ 0 → HeadOk h
-unfolding head_no
+pub head_ok : (h : Head) → check_head h ≡ passed → HeadOk h
+unfolding check_head
 head_ok h e =
-    let a = or_if_ok _ _ limit e in
-    let b = or_if_ok _ _ limit a.0 in
-    let d = or_if_ok _ _ limit b.0 in
-    record { some = positive (eqb-false _ 0 d.1); few = ltb-false _ _ b.1; channels = ltb-false _ _ a.1 }
+    let a = then_ok _ _ e in
+    let b = then_ok _ _ a.1 in
+    record {
+      some = positive (eqb-false _ 0 (refuse_if_ok _ _ a.0));
+      few = ltb-false _ _ (refuse_if_ok _ _ b.0);
+      channels = ltb-false _ _ (refuse_if_ok _ _ b.1);
+    }
 
 pub record ChannelRecordOk (n at : ℕ) (l : ChannelFields) : Type 0 where
   pub turn : channel_place l.number ≡ at
@@ -52,14 +58,18 @@ pub record ChannelRecordOk (n at : ℕ) (l : ChannelFields) : Type 0 where
   pub to : l.to < n
   pub apart : l.from ≡ l.to → ⊥
 
-pub channel_ok : (n at : ℕ) (l : ChannelFields) → channel_no n at l ≡ 0 → ChannelRecordOk n at l
-unfolding channel_no
+pub channel_ok : (n at : ℕ) (l : ChannelFields) → check_channel n at l ≡ passed → ChannelRecordOk n at l
+unfolding check_channel
 channel_ok n at l e =
-    let a = or_if_ok _ _ name e in
-    let b = or_if_ok _ _ name a.0 in
-    let d = or_if_ok _ _ name b.0 in
-    let f = or_if_ok _ _ name d.0 in
-    record { turn = same _ _ f.1; from = leb-false _ _ d.1; to = leb-false _ _ b.1; apart = eqb-false _ _ a.1 }
+    let a = then_ok _ _ e in
+    let b = then_ok _ _ a.1 in
+    let d = then_ok _ _ b.1 in
+    record {
+      turn = same _ _ (refuse_if_ok _ _ a.0);
+      from = leb-false _ _ (refuse_if_ok _ _ b.0);
+      to = leb-false _ _ (refuse_if_ok _ _ d.0);
+      apart = eqb-false _ _ (refuse_if_ok _ _ d.1);
+    }
 
 -- ---- states
 
@@ -68,16 +78,15 @@ pub record NamesOk (h : Head) (f : StateFields) : Type 0 where
   pub send : f.event ≡ 2 → f.channel < h.channels
   pub receive : f.event ≡ 3 → f.channel < h.channels
 
-pub named : (h : Head) (f : StateFields) → name_no h f ≡ 0 → NamesOk h f
-unfolding name_no
+pub named : (h : Head) (f : StateFields) → check_names h f ≡ passed → NamesOk h f
+unfolding check_names
 named h f e =
-    let a = or_if_ok _ _ name e in
-    let b = or_if_ok _ _ name a.0 in
-    let d = or_if_ok _ _ name b.0 in
+    let a = then_ok _ _ e in
+    let b = then_ok _ _ a.1 in
     record {
-      process = leb-false _ _ d.1;
-      send = λ z. leb-false _ _ (half _ _ b.1 (eq-eqb _ 2 z));
-      receive = λ z. leb-false _ _ (half _ _ a.1 (eq-eqb _ 3 z));
+      process = leb-false _ _ (refuse_if_ok _ Name a.0);
+      send = λ z. leb-false _ _ (half _ _ (refuse_if_ok _ Name b.0) (eq-eqb _ 2 z));
+      receive = λ z. leb-false _ _ (half _ _ (refuse_if_ok _ Name b.1) (eq-eqb _ 3 z));
     }
 
 -- the event is known, and what it doesn't use is zero
@@ -87,19 +96,18 @@ pub record FieldsOk (f : StateFields) : Type 0 where
   pub message : f.event < 2 → f.message ≡ 0
   pub stamp : (f.event ≡ 2 → ⊥) → f.stamp ≡ 0
 
-pub fields_ok : (f : StateFields) → field_no f ≡ 0 → FieldsOk f
-unfolding field_no
+pub fields_ok : (f : StateFields) → check_fields f ≡ passed → FieldsOk f
+unfolding check_fields
 fields_ok f e =
-    let a = or_if_ok _ _ field e in
-    let b = or_if_ok _ _ field a.0 in
-    let d = or_if_ok _ _ field b.0 in
-    let g = or_if_ok _ _ field d.0 in
-    let few : f.event ≤ 3 = ltb-false _ _ g.1 in
+    let a = then_ok _ _ e in
+    let b = then_ok _ _ a.1 in
+    let d = then_ok _ _ b.1 in
+    let few : f.event ≤ 3 = ltb-false _ _ (refuse_if_ok _ Field a.0) in
     record {
       event = omega arith;
-      channel = λ l. same _ _ (half _ _ d.1 (lt-ltb _ _ l));
-      message = λ l. same _ _ (half _ _ b.1 (lt-ltb _ _ l));
-      stamp = λ n. same _ _ (half _ _ a.1 (ap not (ne_eqb _ 2 n)));
+      channel = λ l. same _ _ (half _ _ (refuse_if_ok _ Field b.0) (lt-ltb _ _ l));
+      message = λ l. same _ _ (half _ _ (refuse_if_ok _ Field d.0) (lt-ltb _ _ l));
+      stamp = λ n. same _ _ (half _ _ (refuse_if_ok _ Field d.1) (ap not (ne_eqb _ 2 n)));
     }
 
 pub record StateOk (s : List ℕ) (count : ℕ) (f : StateFields) : Type 0 where
@@ -111,23 +119,22 @@ pub record StateOk (s : List ℕ) (count : ℕ) (f : StateFields) : Type 0 where
   pub sends : f.event ≡ 2 → (channel_at s f.channel).from ≡ f.process
   pub takes : f.event ≡ 3 → (channel_at s f.channel).to ≡ f.process
 
-pub state_ok : (s counts : List ℕ) (f : StateFields) → state_no s counts f ≡ 0 → StateOk s (get_or counts f.process 0) f
-unfolding state_no start_no side_no
+pub state_ok : (s counts : List ℕ) (f : StateFields) → check_state s counts f ≡ passed → StateOk s (get_or counts f.process 0) f
+unfolding check_state check_start check_side
 state_ok s counts f e =
-    let a = or_else_ok _ _ e in
-    let b = or_else_ok _ _ a.0 in
-    let d = or_else_ok _ _ b.0 in
-    let g = or_if_ok _ _ limit d.0 in
-    let s2 = or_if_ok _ _ start b.1 in
-    let s1 = or_if_ok _ _ start s2.0 in
+    let a = then_ok _ _ e in
+    let b = then_ok _ _ a.1 in
+    let d = then_ok _ _ b.1 in
+    let g = then_ok _ _ d.1 in
+    let starts = then_ok _ _ g.0 in
     record {
-      names = named (head_of s) f g.0;
-      room = leb-false _ _ g.1;
-      fields = fields_ok f d.1;
-      start = λ z. same _ _ (half _ _ s1.1 (eq-eqb _ 0 z));
-      first = λ z. first f.event (get_or counts f.process 0) s2.1 z;
-      sends = λ z. same _ _ (or_if_ok 0 _ side (simp z at a.1)).1;
-      takes = λ z. same _ _ (or_if_ok 0 _ side (simp z at a.1)).1;
+      names = named (head_of s) f a.0;
+      room = leb-false _ _ (refuse_if_ok _ Limit b.0);
+      fields = fields_ok f d.0;
+      start = λ z. same _ _ (half _ _ (refuse_if_ok _ Start starts.0) (eq-eqb _ 0 z));
+      first = λ z. first f.event (get_or counts f.process 0) (refuse_if_ok _ Start starts.1) z;
+      sends = λ z. same _ _ (refuse_if_ok _ Side (simp z at g.1));
+      takes = λ z. same _ _ (refuse_if_ok _ Side (simp z at g.1));
     }
   where
     first : (x y : ℕ) → (not (eqb x 0) && eqb y 0) ≡ false → y ≡ 0 → x ≡ 0
@@ -137,16 +144,15 @@ state_ok s counts f e =
         by true q h = eqb-true x 0 q
         by false q h = never (cc)
 
--- how the code takes the chain apart
-pub state_stop : (s counts : List ℕ) (f : StateFields) → (name_no (head_of s) f ≡ 0 → ⊥) → state_no s counts f ≡ name_no (head_of s) f
-unfolding state_no
-state_stop s counts f n =
-    let a = or_if_stop (name_no (head_of s) f) (leb 512 (get_or counts f.process 0)) limit n in
-    let b = ap (λ r. or_else r (field_no f)) a ∙ or_else_stop _ _ n in
-    let d = ap (λ r. or_else r (start_no f (get_or counts f.process 0))) b ∙ or_else_stop _ _ n in
-    ap (λ r. or_else r (side_no s f)) d ∙ or_else_stop _ _ n
-
 -- ---- the end: every process has a state
+
+-- which is what a look through the counts finds
+pub lacks_any : (counts : List ℕ) (n : ℕ) → n ≤ length counts → lacks counts n ≡ list_any (λ count. eqb count 0) (take n counts)
+unfolding lacks
+lacks_any counts zero h = refl
+lacks_any counts (suc n) h =
+    ap (λ some. some || eqb (get_or counts n 0) 0) (lacks_any counts n (omega arith))
+    ∙ rw (← add-one) (sym (list_any_more (λ count. eqb count 0) counts n 0 (omega arith)))
 
 pub none_lacks : (counts : List ℕ) (n : ℕ) → lacks counts n ≡ false → (p : ℕ) → p < n → get_or counts p 0 ≡ 0 → ⊥
 unfolding lacks
@@ -171,7 +177,7 @@ pub record StateThere (s : List ℕ) (at : ℕ) (f : StateFields) : Type 0 where
   pub long : length_at s at ≡ state_length (head_of s)
   pub fields : f ≡ state_fields_at s at
 
-pub state_there : (s : List ℕ) (at : ℕ) (f : StateFields) → opening_no s at ≡ 0 → record_at s at ≡ R.State f → StateThere s at f
+pub state_there : (s : List ℕ) (at : ℕ) (f : StateFields) → check_opening s at ≡ passed → record_at s at ≡ R.State f → StateThere s at f
 unfolding length_of
 state_there s at f w = by_place s at (λ r. r ≡ R.State f → StateThere s at f) w
     (λ z k e. never (cc))
@@ -179,7 +185,7 @@ state_there s at f w = by_place s at (λ r. r ≡ R.State f → StateThere s at 
     (λ l z k e. record { past = z; behind = l; whole = opened_whole s at 3 w k; long = (opened s at w).size ∙ ap (λ n. length_of n (head_of s)) k; fields = cc })
     (λ l z k e. never (cc))
 
-pub end_there : (s : List ℕ) (at : ℕ) → opening_no s at ≡ 0 → record_at s at ≡ R.End → (at ≡ 0 → ⊥) × (states_place (head_of s) ≤ at) × (length_at s at ≡ 4)
+pub end_there : (s : List ℕ) (at : ℕ) → check_opening s at ≡ passed → record_at s at ≡ R.End → (at ≡ 0 → ⊥) × (states_place (head_of s) ≤ at) × (length_at s at ≡ 4)
 unfolding length_of
 end_there s at w = by_place s at (λ r. r ≡ R.End → (at ≡ 0 → ⊥) × (states_place (head_of s) ≤ at) × (length_at s at ≡ 4)) w
     (λ z k e. never (cc))

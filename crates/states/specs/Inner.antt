@@ -2,7 +2,8 @@
 use Rattle.std.specs.Prelude.{◌≡◌, List, ℕ, ◌+◌, ◌≤◌, length}
 use Rattle.record.specs.Layout.{channel_length, channel_place}
 use Rattle.record.specs.Inner.{states_place, values_place}
-use Rattle.record.specs.Record.{head_of, opening_no, record_at}
+use Rattle.record.specs.Record.{head_of, check_opening, record_at}
+use Rattle.record.specs.Refusal.{passed}
 use Rattle.record.specs.declared.Head.{Head}
 use Rattle.record.specs.declared.StateFields.{StateFields}
 use Rattle.record.specs.declared.Record.{Record}
@@ -29,5 +30,5 @@ pub record RecordBeside (s : List ℕ) (h : Head) (counts : List ℕ) (at : ℕ)
   pub head : h ≡ head_of s
   pub few : (at ≡ 0 → ⊥) → h.processes ≤ 8
   pub eight : length counts ≡ 8
-  pub opening : opening_no s at ≡ 0
+  pub opening : check_opening s at ≡ passed
   pub item : r ≡ record_at s at

@@ -12,6 +12,7 @@ use record::bytes::{signed_of, u16_at};
 use record::layout::{VALUES_PLACE, channel_place};
 use record::reading::state_fields_at;
 
+#[tactic(auto, unfolding(crate::specs::States::message_of))]
 fn message_of(f: StateFields) -> Message
     ensures { result ≡ message_of f }
 {
@@ -23,11 +24,11 @@ fn message_of(f: StateFields) -> Message
     }
 }
 
+#[tactic(auto, unfolding(crate::specs::States::event_of))]
 fn event_of(f: StateFields) -> Event
     ensures { result ≡ event_of f }
 {
-    let event = f.event;
-    match event {
+    match f.event {
         0 => Event::Start,
         1 => Event::Internal,
         2 => Event::Send(message_of(f)),
@@ -50,6 +51,7 @@ pub fn state_at(run: &[u8], at: usize) -> State
 }
 
 // The ends of channel h, whose record is there.
+#[tactic(auto, unfolding(crate::specs::States::channel_at))]
 pub fn channel_at(run: &[u8], h: u16) -> Channel
     requires { HasChannel run.now h }
     ensures { result ≡ channel_at run.now h }

@@ -1,87 +1,89 @@
-// Which refusal a record gets beside what is known so far, 0 where it gets none: a line a test, in the paper's order.
+// What the tests say of a record beside what is known so far: nothing, or why it is refused. A line a test, in the paper's order.
 ghost use Rattle.std.specs.Prelude.{◌≡◌, ◌≤◌, length};
-ghost use Rattle.states.specs.Judge.{head_no, channel_no, name_no, field_no, start_no, side_no, state_no, lacks, judge_no};
+ghost use Rattle.states.specs.Judge.{check_head, check_channel, check_names, check_fields, check_start, check_side, check_state, lacks, check_record};
 ghost use Rattle.states.specs.Inner.{HasChannel, StateBeside, RecordBeside};
 
 use crate::held::channel_at;
 use record::layout::channel_place;
-use record::reasons::{FIELD, LIMIT, NAME, SIDE, START, or_else, or_if};
+use record::reasons::{Reason, refuse_if};
 use record::{ChannelFields, Head, Record, StateFields};
 
 // 5: the numbers of processes and channels.
-fn head_no(head: Head) -> u16
-    ensures { result ≡ head_no head }
+#[tactic(auto, unfolding(crate::specs::Judge::check_head))]
+fn check_head(head: Head) -> Result<(), Reason>
+    ensures { result ≡ check_head head }
 {
-    let number = or_if(0, head.processes == 0, LIMIT);
-    let number = or_if(number, 8 < head.processes, LIMIT);
-    or_if(number, 16 < head.channels, LIMIT)
+    refuse_if(head.processes == 0, Reason::Limit)?;
+    refuse_if(8 < head.processes, Reason::Limit)?;
+    refuse_if(16 < head.channels, Reason::Limit)
 }
 
 // 7: the channel's number in turn, its ends processes that differ.
-fn channel_no(processes: u16, at: usize, line: ChannelFields) -> u16
-    ensures { result ≡ channel_no processes at line }
+#[tactic(auto, unfolding(crate::specs::Judge::check_channel))]
+fn check_channel(processes: u16, at: usize, line: ChannelFields) -> Result<(), Reason>
+    ensures { result ≡ check_channel processes at line }
 {
-    let number = or_if(0, channel_place(line.number) != at, NAME);
-    let number = or_if(number, processes <= line.from, NAME);
-    let number = or_if(number, processes <= line.to, NAME);
-    or_if(number, line.from == line.to, NAME)
+    refuse_if(channel_place(line.number) != at, Reason::Name)?;
+    refuse_if(processes <= line.from, Reason::Name)?;
+    refuse_if(processes <= line.to, Reason::Name)?;
+    refuse_if(line.from == line.to, Reason::Name)
 }
 
 // 7: the process, and of a send or a receive the channel, have to exist.
-fn name_no(head: Head, f: StateFields) -> u16
-    ensures { result ≡ name_no head f }
+#[tactic(auto, unfolding(crate::specs::Judge::check_names))]
+fn check_names(head: Head, f: StateFields) -> Result<(), Reason>
+    ensures { result ≡ check_names head f }
 {
-    let number = or_if(0, head.processes <= f.process, NAME);
-    let number = or_if(number, (f.event == 2) & (head.channels <= f.channel), NAME);
-    or_if(number, (f.event == 3) & (head.channels <= f.channel), NAME)
+    refuse_if(head.processes <= f.process, Reason::Name)?;
+    refuse_if((f.event == 2) & (head.channels <= f.channel), Reason::Name)?;
+    refuse_if((f.event == 3) & (head.channels <= f.channel), Reason::Name)
 }
 
-// 8: the event is known, and what it doesn't use is zero.
-fn field_no(f: StateFields) -> u16
-    ensures { result ≡ field_no f }
+// 8: the event is known, and what it doesn't use is zero. An unknown event is refused only here, behind 7 and 5, so the fields hold it as a number.
+#[tactic(auto, unfolding(crate::specs::Judge::check_fields))]
+fn check_fields(f: StateFields) -> Result<(), Reason>
+    ensures { result ≡ check_fields f }
 {
-    let number = or_if(0, 3 < f.event, FIELD);
-    let number = or_if(number, (f.event < 2) & (f.channel != 0), FIELD);
-    let number = or_if(number, (f.event < 2) & (f.message != 0), FIELD);
-    or_if(number, (f.event != 2) & (f.stamp != 0), FIELD)
+    refuse_if(3 < f.event, Reason::Field)?;
+    refuse_if((f.event < 2) & (f.channel != 0), Reason::Field)?;
+    refuse_if((f.event < 2) & (f.message != 0), Reason::Field)?;
+    refuse_if((f.event != 2) & (f.stamp != 0), Reason::Field)
 }
 
 // 9: a process's first state, and no other, is a start.
-fn start_no(f: StateFields, count: u16) -> u16
-    ensures { result ≡ start_no f count }
+#[tactic(auto, unfolding(crate::specs::Judge::check_start))]
+fn check_start(f: StateFields, count: u16) -> Result<(), Reason>
+    ensures { result ≡ check_start f count }
 {
-    let number = or_if(0, (f.event == 0) & (count != 0), START);
-    or_if(number, (f.event != 0) & (count == 0), START)
+    refuse_if((f.event == 0) & (count != 0), Reason::Start)?;
+    refuse_if((f.event != 0) & (count == 0), Reason::Start)
 }
 
 // 10: only the channel's ends send and receive on it.
-fn side_no(run: &[u8], f: StateFields) -> u16
+#[tactic(auto, unfolding(crate::specs::Judge::check_side))]
+fn check_side(run: &[u8], f: StateFields) -> Result<(), Reason>
     requires { (f.event ≡ 2 → HasChannel run.now f.channel) × (f.event ≡ 3 → HasChannel run.now f.channel) }
-    ensures { result ≡ side_no run.now f }
+    ensures { result ≡ check_side run.now f }
 {
-    let event = f.event;
-    match event {
-        2 => or_if(0, channel_at(run, f.channel).from != f.process, SIDE),
-        3 => or_if(0, channel_at(run, f.channel).to != f.process, SIDE),
-        _ => 0,
+    match f.event {
+        2 => refuse_if(channel_at(run, f.channel).from != f.process, Reason::Side),
+        3 => refuse_if(channel_at(run, f.channel).to != f.process, Reason::Side),
+        _ => Ok(()),
     }
 }
 
 // A state in the order 7, 5, 8, 9, 10.
-fn state_no(run: &[u8], head: Head, counts: &[u16], f: StateFields) -> u16
+#[tactic(auto, unfolding(crate::specs::Judge::check_state))]
+fn check_state(run: &[u8], head: Head, counts: &[u16], f: StateFields) -> Result<(), Reason>
     requires { StateBeside run.now head counts.now }
-    ensures { result ≡ state_no run.now counts.now f }
+    ensures { result ≡ check_state run.now counts.now f }
 {
-    let name = name_no(head, f);
-    if name != 0 {
-        return name;
-    }
-    let process = f.process as usize;
-    let count = counts[process];
-    let number = or_if(0, 512 <= count, LIMIT);
-    let number = or_else(number, field_no(f));
-    let number = or_else(number, start_no(f, count));
-    or_else(number, side_no(run, f))
+    check_names(head, f)?;
+    let count = counts[f.process as usize];
+    refuse_if(512 <= count, Reason::Limit)?;
+    check_fields(f)?;
+    check_start(f, count)?;
+    check_side(run, f)
 }
 
 // One of the first n processes has no state.
@@ -89,24 +91,24 @@ fn lacking(counts: &[u16], n: u16) -> bool
     requires { n ≤ length counts.now }
     ensures { result ≡ lacks counts.now n }
 {
-    let mut some = false;
-    let mut p: usize = 0;
-    while p < n as usize {
-        some = some | (counts[p] == 0);
-        p += 1;
-    }
-    some
+    counts[..n as usize].contains(&0)
 }
 
 // What the step accepted, judged beside the run's head and the number of states of each process so far.
-pub fn judge_no(run: &[u8], head: Head, counts: &[u16], at: usize, item: Record) -> u16
+pub fn check_record(
+    run: &[u8],
+    head: Head,
+    counts: &[u16],
+    at: usize,
+    item: Record,
+) -> Result<(), Reason>
     requires { RecordBeside run.now head counts.now at item }
-    ensures { result ≡ judge_no run.now counts.now at item }
+    ensures { result ≡ check_record run.now counts.now at item }
 {
     match item {
-        Record::Head(said) => head_no(said),
-        Record::Channel(line) => channel_no(head.processes, at, line),
-        Record::State(f) => state_no(run, head, counts, f),
-        Record::End => or_if(0, lacking(counts, head.processes), START),
+        Record::Head(said) => check_head(said),
+        Record::Channel(line) => check_channel(head.processes, at, line),
+        Record::State(f) => check_state(run, head, counts, f),
+        Record::End => refuse_if(lacking(counts, head.processes), Reason::Start),
     }
 }
