@@ -8,9 +8,12 @@ use borrow.Author.Tests.{ltb-true, ltb-false, eqb-true, eqb-false, not-false}
 use lib.Dec.{eqb, ltb}
 use lib.ListN.{length}
 use Rattle.record.specs.Inner.{states_place}
+use Rattle.std.specs.Prelude.{⊤}
 use Rattle.std.proofs.Common.{Ok, Err}
 use Rattle.model.proofs.Numbers.{never}
-use Rattle.record.specs.Refusal.{Check, passed, refuse_if, ◌then◌}
+use Rattle.record.specs.Refusal.{Check, passed, refuse_if, ◌then◌, refusal, at_fault}
+use Rattle.record.specs.declared.File.{File}
+use Rattle.record.specs.declared.Refusal.{Refusal}
 use Rattle.record.specs.declared.reasons.Reason.{Reason}
 use Rattle.record.specs.declared.Record.{Record}
 use Rattle.record.specs.declared.Record.TheVariants as R
@@ -30,6 +33,15 @@ then_ok (Err r) b e = never (cc)
 
 pub then_refuse_ok : (a : Check) (t : Bool) (r : Reason) → a then refuse_if t r ≡ passed → (a ≡ passed) × (t ≡ false)
 then_refuse_ok a t r e = let h = then_ok a (refuse_if t r) e in (h.0, refuse_if_ok t r h.1)
+
+-- what a record's refusal tells of its tests, and what no refusal tells
+pub faulty : (f : File) (p : ℕ) (check : Check) (x : Refusal) → at_fault f p check ≡ Err x → (why : Reason) × (check ≡ Err why) × (x ≡ refusal f why p)
+faulty f p (Ok u) x e = never (cc)
+faulty f p (Err r) x e = (r, refl, cc)
+
+pub not_faulty : (f : File) (p : ℕ) (check : Check) (u : ⊤) → at_fault f p check ≡ Ok u → check ≡ passed
+not_faulty f p (Ok u) v e = refl
+not_faulty f p (Err r) v e = never (cc)
 
 -- ---- an opening that is right
 

@@ -1,34 +1,37 @@
 -- The laws of a pass: what each turn of it gives, how far it has come, and what an accepted file is by what holds along the pass.
 use mathlib.Core.Path.{◌≡◌, refl, sym, ap, ◌∙◌}
-use mathlib.Core.Logic.{⊎_elim}
 use mathlib.Core.Bool.{Bool, true, false, cond}
 use mathlib.Core.List.{List}
 use Prim.Native.Nat.{ℕ, zero, suc, ◌+◌, ◌≤◌, ◌<◌}
 use native.Mathlib.Omega.{arith}
-use borrow.Author.Tests.{lt-ltb, le-ltb, ltb-false}
+use borrow.Author.Tests.{ltb-false}
 use lib.Dec.{ltb}
 use lib.ListN.{length}
 use Rattle.model.proofs.Numbers.{never}
-use Rattle.model.proofs.Lists.{le_or_lt}
 use Rattle.std.proofs.Common.{Result, Ok, Err}
-use Rattle.record.specs.Refusal.{Check, passed, refusal}
+use Rattle.std.specs.Prelude.{⊤}
+use Rattle.record.specs.Refusal.{Check, passed, refusal, and_then}
 use Rattle.record.specs.declared.reasons.Reason.{Reason}
 use Rattle.record.specs.declared.reasons.Reason.TheVariants.{TooLong, WrongKind}
 use Rattle.record.specs.declared.File.{File}
 use Rattle.record.specs.declared.Refusal.{Refusal}
-use Rattle.record.specs.Pass.{Read, Pass, ended, read_from, read_file}
+use Rattle.record.specs.Pass.{Read, Pass, check_length, check_end, read_from, read_file}
 use Rattle.record.specs.Inner.{read_records}
+use Rattle.record.proofs.Laws.{refuse_if_ok, not_faulty}
 
--- what follows an end is refused, else the file is accepted
-pub by_end : (P : (List ℕ → Read) → Type 0) (file : File) (s : List ℕ) (next : ℕ) → ((x : Refusal) → P (λ qs. Err x))
-    → (length s ≤ next → P Ok) → P (ended file s next)
-unfolding ended
-by_end P file s next more none = go (ltb next (length s)) refl
+-- a file that isn't too long, and an end behind which nothing follows
+pub length_ok : (f : File) (s : List ℕ) → check_length f s ≡ Ok tt → length s ≤ 65535
+unfolding check_length
+length_ok f s e = ltb-false _ _ (refuse_if_ok _ TooLong (not_faulty _ _ _ _ e))
+
+pub end_ok : (f : File) (s : List ℕ) (next : ℕ) → check_end f s next ≡ Ok tt → length s ≤ next
+unfolding check_end
+end_ok f s next e = go (ltb next (length s)) refl e
   where
     go : (t : Bool) → ltb next (length s) ≡ t
-        → P (λ qs. cond t (Err (record { file = file; reason = WrongKind; place = next; after = true })) (Ok qs))
-    go true e = more (record { file = file; reason = WrongKind; place = next; after = true })
-    go false e = none (ltb-false _ _ e)
+        → ◌≡◌ {A = Result ⊤ Refusal} (cond t (Err (record { file = f; reason = WrongKind; place = next; after = true })) (Ok tt)) (Ok tt) → length s ≤ next
+    go true t e = never (cc)
+    go false t e = ltb-false _ _ t
 
 module _ {Item Known : Type 0} (p : Pass Item Known) where
   -- ---- a turn
@@ -43,7 +46,7 @@ module _ {Item Known : Type 0} (p : Pass Item Known) where
       unfolding read_from
       turn_judged why n = simp (g, n)
 
-      turn_end : p.judge at k r ≡ passed → p.is_end r ≡ true → read_from p (suc f) at k ≡ ended p.file p.bytes next (p.places k)
+      turn_end : p.judge at k r ≡ passed → p.is_end r ≡ true → read_from p (suc f) at k ≡ and_then (check_end p.file p.bytes next) (λ u. Ok (p.places k))
       unfolding read_from
       turn_end n e = simp (g, n, e)
 
@@ -53,13 +56,13 @@ module _ {Item Known : Type 0} (p : Pass Item Known) where
 
   -- ---- the length of the file
 
-  pub read_long : 65535 < length p.bytes → read_file p ≡ Err (refusal p.file TooLong 0)
+  pub read_long : (x : Refusal) → check_length p.file p.bytes ≡ Err x → read_file p ≡ Err x
   unfolding read_file
-  read_long h = simp (lt-ltb _ _ h)
+  read_long x e = ap (λ t. and_then t (λ u. read_records p)) e
 
-  pub read_short : length p.bytes ≤ 65535 → read_file p ≡ read_records p
+  pub read_short : check_length p.file p.bytes ≡ Ok tt → read_file p ≡ read_records p
   unfolding read_file
-  read_short h = simp (le-ltb _ _ h)
+  read_short e = ap (λ t. and_then t (λ u. read_records p)) e
 
   -- ---- the pass so far: what is left from here gives the whole
 
@@ -91,7 +94,7 @@ module _ {Item Known : Type 0} (p : Pass Item Known) where
       pub here_judged : (why : Reason) → p.judge at k r ≡ Err why → read_records p ≡ Err (refusal p.file why at)
       here_judged why n = turn (λ f. turn_judged f at k r next g why n)
 
-      pub here_end : p.judge at k r ≡ passed → p.is_end r ≡ true → read_records p ≡ ended p.file p.bytes next (p.places k)
+      pub here_end : p.judge at k r ≡ passed → p.is_end r ≡ true → read_records p ≡ and_then (check_end p.file p.bytes next) (λ u. Ok (p.places k))
       here_end n e = turn (λ f. turn_end f at k r next g n e)
 
       pub here_more : p.judge at k r ≡ passed → p.is_end r ≡ false → at < next → next ≤ length p.bytes → Here next (p.more r at k)
@@ -122,17 +125,19 @@ module _ {Item Known : Type 0} (p : Pass Item Known) where
         by_judge r next g (Ok x) a false b rest =
             rest next (p.more r at k) (next-holds at next k r w g a b) qs (sym (turn_more f at k r next g a b) ∙ e)
         by_judge r next g (Ok x) a true b rest =
-            by_end (λ end. end (p.places k) ≡ Ok qs → P qs) p.file p.bytes next
-            (λ x z. never (cc))
-            (λ h z. let same : p.places k ≡ qs = cc in rw (← same) (end-holds at next k r w g a b h))
-            (sym (turn_end f at k r next g a b) ∙ e)
+            at_end (check_end p.file p.bytes next) refl (sym (turn_end f at k r next g a b) ∙ e)
+          where
+            at_end : (t : Result ⊤ Refusal) → check_end p.file p.bytes next ≡ t → and_then t (λ u. Ok (p.places k)) ≡ Ok qs → P qs
+            at_end (Err x) t e = never (cc)
+            at_end (Ok u) t e = let same : p.places k ≡ qs = cc in rw (← same) (end-holds at next k r w g a b (end_ok _ _ _ t))
 
         by_step : (v : Result (Item × ℕ) Refusal) → p.step at k ≡ v → Rest → P qs
         by_step (Err x) g rest = let y = sym (turn_stopped f at k x g) ∙ e in never (cc (y))
         by_step (Ok (r, next)) g rest = by_judge r next g (p.judge at k r) refl (p.is_end r) refl rest
 
     pub accepted_holds : Along 0 p.start → (qs : List ℕ) → read_file p ≡ Ok qs → (length p.bytes ≤ 65535) × P qs
-    accepted_holds w qs e = ⊎_elim
-        (λ l. (l, from_here (suc (length p.bytes)) 0 p.start w qs (sym (read_short l) ∙ e)))
-        (λ l. let y = sym (read_long l) ∙ e in never (cc (y)))
-        (le_or_lt (length p.bytes) 65535)
+    accepted_holds w qs e = go (check_length p.file p.bytes) refl
+      where
+        go : (t : Result ⊤ Refusal) → check_length p.file p.bytes ≡ t → (length p.bytes ≤ 65535) × P qs
+        go (Err x) t = let y = sym (read_long x t) ∙ e in never (cc (y))
+        go (Ok u) t = (length_ok _ _ t, from_here (suc (length p.bytes)) 0 p.start w qs (sym (read_short t) ∙ e))

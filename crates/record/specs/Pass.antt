@@ -1,9 +1,9 @@
 -- A pass over a file's records in turn, beside what is known of those ahead: the first refusal, or the places of the records that it keeps.
-use Rattle.std.specs.Prelude.{Bool, true, cond, List, [], ℕ, zero, suc, ltb, length, Result, Ok, Err}
+use Rattle.std.specs.Prelude.{Bool, true, cond, List, [], ℕ, zero, suc, ltb, length, Result, Ok, Err, ⊤}
 use Rattle.record.specs.declared.File.{File}
 use Rattle.record.specs.declared.Refusal.{Refusal}
 use Rattle.record.specs.declared.reasons.Reason.TheVariants.{TooLong, WrongKind}
-use Rattle.record.specs.Refusal.{Check, refusal, at_fault, and_then}
+use Rattle.record.specs.Refusal.{Check, refuse_if, refusal, at_fault, and_then}
 
 -- what a pass gives: the places in file order, or the first refusal
 abbrev pub Read : Type 0
@@ -25,9 +25,13 @@ pub record Pass (Item Known : Type 0) : Type 0 where
   pub more : Item → ℕ → Known → Known
   pub places : Known → List ℕ
 
+-- a file has at most 65,535 bytes
+unfoldable pub check_length : File → List ℕ → Result ⊤ Refusal
+check_length f s = at_fault f 0 (refuse_if (ltb 65535 (length s)) TooLong)
+
 -- nothing follows an end
-unfoldable pub ended : File → List ℕ → ℕ → List ℕ → Read
-ended f s next qs = cond (ltb next (length s)) (Err (record { file = f; reason = WrongKind; place = next; after = true })) (Ok qs)
+unfoldable pub check_end : File → List ℕ → ℕ → Result ⊤ Refusal
+check_end f s next = cond (ltb next (length s)) (Err (record { file = f; reason = WrongKind; place = next; after = true })) (Ok tt)
 
 module _ {Item Known : Type 0} (p : Pass Item Known) where
   -- from a place on; the first number bounds the records left
@@ -36,8 +40,8 @@ module _ {Item Known : Type 0} (p : Pass Item Known) where
   read_from (suc f) at k =
       and_then (p.step at k) (λ (r, next).
       and_then (at_fault p.file at (p.judge at k r)) (λ u.
-      cond (p.is_end r) (ended p.file p.bytes next (p.places k)) (read_from f next (p.more r at k))))
+      cond (p.is_end r) (and_then (check_end p.file p.bytes next) (λ u. Ok (p.places k))) (read_from f next (p.more r at k))))
 
   -- the whole file
   unfoldable pub read_file : Read
-  read_file = cond (ltb 65535 (length p.bytes)) (Err (refusal p.file TooLong 0)) (read_from (suc (length p.bytes)) 0 p.start)
+  read_file = and_then (check_length p.file p.bytes) (λ u. read_from (suc (length p.bytes)) 0 p.start)

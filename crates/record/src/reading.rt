@@ -3,11 +3,12 @@ ghost use Rattle.std.specs.Prelude.{◌≡◌, ◌+◌, ◌≤◌, length};
 ghost use Rattle.record.specs.Layout.{channel_length};
 ghost use Rattle.record.specs.Inner.{values_place};
 ghost use Rattle.record.specs.Refusal.{passed};
+ghost use Rattle.record.specs.Pass.{check_length, check_end};
 ghost use Rattle.record.specs.Record.{length_of, check_frame, head_of, due, check_opening, check_step, channel_fields_at, state_fields_at, record_at, step_at};
 
 use crate::bytes::{left_from, u16_at, u32_at};
 use crate::layout::{CHANNEL_LENGTH, HEAD_LENGTH, state_length, states_place};
-use crate::reasons::{Reason, refusal_of, refuse_if};
+use crate::reasons::{Reason, at_fault, refuse_if};
 use crate::{ChannelFields, File, Head, Record, Refusal, StateFields};
 
 // The length that the paper's table gives a kind of a run; 0 for any other kind.
@@ -153,8 +154,32 @@ pub fn step_beside(run: &[u8], head: Head, at: usize) -> Result<(Record, usize),
     requires { head ≡ head_of run.now }
     ensures { result ≡ step_at run.now at }
 {
-    check_step(run, head, at).map_err(|reason| refusal_of(File::Run, reason, at))?;
+    at_fault(File::Run, at, check_step(run, head, at))?;
     let next = at + u16_at(run, at) as usize;
     let record = record_at(run, head, at);
     Ok((record, next))
+}
+
+// A file has at most 65,535 bytes.
+#[tactic(auto, unfolding(crate::specs::Pass::check_length))]
+pub fn check_length(file: File, bytes: &[u8]) -> Result<(), Refusal>
+    ensures { result ≡ check_length file bytes.now }
+{
+    at_fault(file, 0, refuse_if(65535 < bytes.len(), Reason::TooLong))
+}
+
+// Behind the end record, whose next place this is, nothing may follow.
+#[tactic(auto, unfolding(crate::specs::Pass::check_end))]
+pub fn check_end(file: File, bytes: &[u8], next: usize) -> Result<(), Refusal>
+    ensures { result ≡ check_end file bytes.now next }
+{
+    if next < bytes.len() {
+        return Err(Refusal {
+            file,
+            reason: Reason::WrongKind,
+            place: next,
+            after: true,
+        });
+    }
+    Ok(())
 }

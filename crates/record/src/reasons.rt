@@ -1,6 +1,6 @@
 // The refusals by name. specs/Refusal.antt ties each name to the paper's number.
 ghost use Rattle.std.specs.Prelude.{◌≡◌};
-ghost use Rattle.record.specs.Refusal.{number, refuse_if, refusal};
+ghost use Rattle.record.specs.Refusal.{number, refuse_if, refusal, at_fault};
 
 use crate::{File, Refusal};
 
@@ -59,6 +59,13 @@ pub fn refuse_if(test: bool, reason: Reason) -> Result<(), Reason>
     ensures { result ≡ refuse_if test reason }
 {
     if test { Err(reason) } else { Ok(()) }
+}
+
+// What a test says, as the refusal of the record at this place.
+pub fn at_fault(file: File, place: usize, check: Result<(), Reason>) -> Result<(), Refusal>
+    ensures { result ≡ at_fault file place check }
+{
+    check.map_err(|reason| refusal_of(file, reason, place))
 }
 
 // A refusal of a record that doesn't stand after the end.

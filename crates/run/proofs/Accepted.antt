@@ -1,56 +1,52 @@
 -- What a run that the pass accepts is: its head, its channels, where its states stand, and that each of them is right.
 use mathlib.Core.Path.{◌≡◌, refl, sym, ap, ◌∙◌, subst}
-use mathlib.Core.Logic.{inr, ⊎_elim}
-use mathlib.Core.Bool.{Bool, true, false, cond}
+use mathlib.Core.Logic.{⊎_elim}
+use mathlib.Core.Bool.{true, false}
 use mathlib.Core.List.{List, [], ◌∷◌, ◌++◌}
 use Prim.Native.Nat.{ℕ, suc, ◌+◌, ◌*◌, ◌≤◌, ◌<◌}
 use native.Mathlib.Nat.{eq-or-lt_of_le, mul-zero, mul-suc}
 use native.Mathlib.Omega.{arith}
-use borrow.Author.Tests.{eqb-true}
-use lib.Dec.{eqb}
 use lib.ListN.{length, get_or, take, length-append, get_or-append}
 use lib.Seq.{get_or-append_seam, take-append-le, take-append_seam}
 use Rattle.model.proofs.Numbers.{never, positive}
 use Rattle.model.proofs.Lists.{le_or_lt}
 use Rattle.record.specs.Layout.{head_length, channel_length, channel_place, state_length}
 use Rattle.record.specs.Inner.{states_place}
-use Rattle.record.specs.Pass.Read.{accepted}
-use Rattle.record.specs.Record.{length_at, kind_at, length_of, head_of, opening_no, step_no, channel_fields_at, state_fields_at, record_at, step_at}
-use Rattle.record.specs.Refusal.{refusal}
-use Rattle.record.specs.Refusal.Reason.{start}
+use Rattle.std.proofs.Common.{Ok, Err}
+use Rattle.record.specs.Record.{length_at, kind_at, length_of, head_of, check_opening, check_step, channel_fields_at, state_fields_at, record_at, step_at}
+use Rattle.record.specs.Refusal.{Check, passed, at_fault, and_then}
+use Rattle.record.specs.declared.reasons.Reason.TheVariants.{Start}
 use Rattle.record.specs.declared.File.TheVariants.{Run}
 use Rattle.record.specs.declared.Record.{Record}
 use Rattle.record.specs.declared.Record.TheVariants as R
-use Rattle.record.specs.declared.Step.TheVariants as S
-use Rattle.record.proofs.Laws.{or_if_ok, opened, opened_whole, step_opened, by_place}
+use Rattle.record.proofs.Laws.{refuse_if_ok, opened, opened_whole, step_opened, by_place}
 use Rattle.record.proofs.Pass.{accepted_holds}
 use Rattle.states.specs.States.{places_of, channel_at}
-use Rattle.states.specs.Judge.{judge_no}
+use Rattle.states.specs.Judge.{check_record}
 use Rattle.states.proofs.Laws.{HeadOk, head_ok, channel_ok, StateOk, state_ok, none_lacks, end_there}
-use Rattle.run.specs.Read.{counts_of, given, more, is_end, run_pass, read_of}
+use Rattle.run.specs.Read.{counts_of, more, is_end, run_pass, read_of}
 use Rattle.run.proofs.Indexing.{counts_at}
 
 -- what a step that gives a record tells
 pub record RecordStepped (s : List ℕ) (at next : ℕ) (r : Record) : Type 0 where
-  pub opening : opening_no s at ≡ 0
+  pub opening : check_opening s at ≡ passed
   pub item : r ≡ record_at s at
   pub on : next ≡ at + length_at s at
   pub further : at < next
   pub within : next ≤ length s
 
-pub record_stepped : (s : List ℕ) (at next : ℕ) (r : Record) → given (step_at s at) ≡ inr (r, next) → RecordStepped s at next r
+pub record_stepped : (s : List ℕ) (at next : ℕ) (r : Record) → step_at s at ≡ Ok (r, next) → RecordStepped s at next r
 unfolding step_at
-record_stepped s at next r e = go (eqb (step_no s at) 0) refl e
+record_stepped s at next r e = go (check_step s at) refl e
   where
-    go : (t : Bool) → eqb (step_no s at) 0 ≡ t
-        → given (cond t (S.Got (record_at s at) (at + length_at s at)) (S.Refused (refusal Run (step_no s at) at))) ≡ inr (r, next) → RecordStepped s at next r
-    go true k e =
-        let o = step_opened s at (eqb-true (step_no s at) 0 k) in
+    go : (t : Check) → check_step s at ≡ t → and_then {B = Record × ℕ} (at_fault Run at t) (λ u. Ok (record_at s at, at + length_at s at)) ≡ Ok (r, next) → RecordStepped s at next r
+    go (Ok u) k e =
+        let o = step_opened s at k in
         let f = (opened s at o).frame in
         let same : ◌≡◌ {A = Record × ℕ} (r, next) (record_at s at, at + length_at s at) = cc in
         let n = ap (λ x. x.1) same in
         record { opening = o; item = ap (λ x. x.0) same; on = n; further = omega (arith, f.long); within = omega (arith, f.whole) }
-    go false k e = never (cc)
+    go (Err why) k e = never (cc)
 
 module _ (s : List ℕ) where
   -- the length of a state's record, and where the first one stands
@@ -114,9 +110,9 @@ module _ (s : List ℕ) where
         right = rw (z, take-append-le i qs (at ∷ []) (omega arith)) o.right;
       }
 
-  module _ (at next : ℕ) (qs : List ℕ) (w : RunAlong at qs) (o : opening_no s at ≡ 0) (on : next ≡ at + length_at s at) where
+  module _ (at next : ℕ) (qs : List ℕ) (w : RunAlong at qs) (o : check_opening s at ≡ passed) (on : next ≡ at + length_at s at) where
     -- behind the head
-    along_head : at ≡ 0 → length_at s at ≡ head_length → judge_no s (counts_of s qs) at (R.Head (head_of s)) ≡ 0 → RunAlong next qs
+    along_head : at ≡ 0 → length_at s at ≡ head_length → check_record s (counts_of s qs) at (R.Head (head_of s)) ≡ passed → RunAlong next qs
     along_head z e n = let ok = head_ok (head_of s) n in record {
       head = λ d. ok;
       start = λ d. absurd (omega arith);
@@ -126,7 +122,7 @@ module _ (s : List ℕ) where
     }
 
     -- behind a channel
-    along_channel : at < base → (at ≡ 0 → ⊥) → length_at s at ≡ channel_length → judge_no s (counts_of s qs) at (R.Channel (channel_fields_at s at)) ≡ 0
+    along_channel : at < base → (at ≡ 0 → ⊥) → length_at s at ≡ channel_length → check_record s (counts_of s qs) at (R.Channel (channel_fields_at s at)) ≡ passed
         → RunAlong next qs
     unfolding channel_fields_at channel_at
     along_channel l z e n =
@@ -150,7 +146,7 @@ module _ (s : List ℕ) where
         before h a b = ⊎_elim (λ x. absurd (omega arith)) (λ x. x) (eq-or-lt_of_le a)
 
     -- behind a state
-    along_state : base ≤ at → (at ≡ 0 → ⊥) → at + size ≤ length s → length_at s at ≡ size → judge_no s (counts_of s qs) at (R.State (state_fields_at s at)) ≡ 0
+    along_state : base ≤ at → (at ≡ 0 → ⊥) → at + size ≤ length s → length_at s at ≡ size → check_record s (counts_of s qs) at (R.State (state_fields_at s at)) ≡ passed
         → RunAlong next (qs ++ (at ∷ []))
     along_state l z g e n =
         let ok = w.head z in
@@ -171,9 +167,9 @@ module _ (s : List ℕ) where
         every h a b d = ⊎_elim (λ x. x) (λ x. absurd (omega (arith, none_long qs (d x)))) (eq-or-lt_of_le a)
 
     -- behind any record but the end
-    along_record : judge_no s (counts_of s qs) at (record_at s at) ≡ 0 → is_end (record_at s at) ≡ false → RunAlong next (more (record_at s at) at qs)
+    along_record : check_record s (counts_of s qs) at (record_at s at) ≡ passed → is_end (record_at s at) ≡ false → RunAlong next (more (record_at s at) at qs)
     unfolding length_of
-    along_record = by_place s at (λ r. judge_no s (counts_of s qs) at r ≡ 0 → is_end r ≡ false → RunAlong next (more r at qs)) o
+    along_record = by_place s at (λ r. check_record s (counts_of s qs) at r ≡ passed → is_end r ≡ false → RunAlong next (more r at qs)) o
         (λ z k n e. along_head z (long k) n)
         (λ l z k n e. along_channel l z (long k) n)
         (λ l z k n e. along_state l z (opened_whole s at 3 o k) (long k) n)
@@ -182,7 +178,7 @@ module _ (s : List ℕ) where
         long : {k : ℕ} → kind_at s at ≡ k → length_at s at ≡ length_of k (head_of s)
         long e = (opened s at o).size ∙ ap (λ k. length_of k (head_of s)) e
 
-  pub along_next : (at next : ℕ) (qs : List ℕ) (r : Record) → RunAlong at qs → given (step_at s at) ≡ inr (r, next) → judge_no s (counts_of s qs) at r ≡ 0
+  pub along_next : (at next : ℕ) (qs : List ℕ) (r : Record) → RunAlong at qs → step_at s at ≡ Ok (r, next) → check_record s (counts_of s qs) at r ≡ passed
       → is_end r ≡ false → RunAlong next (more r at qs)
   along_next at next qs r w g n e =
       let d = record_stepped s at next r g in
@@ -196,7 +192,7 @@ module _ (s : List ℕ) where
     pub whole : length s ≡ base + size * length qs + 4
     pub peopled : (p : ℕ) → p < (head_of s).processes → 1 ≤ length (places_of s qs p)
 
-  at_end : (at next : ℕ) (qs : List ℕ) (r : Record) → RunAlong at qs → given (step_at s at) ≡ inr (r, next) → judge_no s (counts_of s qs) at r ≡ 0 → is_end r ≡ true
+  at_end : (at next : ℕ) (qs : List ℕ) (r : Record) → RunAlong at qs → step_at s at ≡ Ok (r, next) → check_record s (counts_of s qs) at r ≡ passed → is_end r ≡ true
       → length s ≤ next → Accepted qs
   at_end at next qs (R.Head h) w g n i last = never (cc)
   at_end at next qs (R.Channel l) w g n i last = never (cc)
@@ -214,9 +210,9 @@ module _ (s : List ℕ) where
         whole = omega (arith, b, all, long, last, d.on, d.within);
         peopled = λ p x.
             let counted = counts_at s qs p (omega (arith, ok.few)) in
-            positive (λ y. none_lacks (counts_of s qs) (head_of s).processes (or_if_ok 0 _ start n).1 p x (counted ∙ y));
+            positive (λ y. none_lacks (counts_of s qs) (head_of s).processes (refuse_if_ok _ Start n) p x (counted ∙ y));
       }
 
-  pub run_accepted : (qs : List ℕ) → read_of s ≡ accepted qs → (length s ≤ 65535) × Accepted qs
+  pub run_accepted : (qs : List ℕ) → read_of s ≡ Ok qs → (length s ≤ 65535) × Accepted qs
   unfolding read_of
   run_accepted = accepted_holds (run_pass s) RunAlong Accepted along_next at_end along_start

@@ -11,7 +11,7 @@ use Rattle.model.specs.Run.{processes, count, state, into, channel, IsState}
 use Rattle.model.specs.Known.{Sides}
 use Rattle.model.proofs.Lists.{le_or_lt}
 use Rattle.record.specs.Layout.{state_length}
-use Rattle.record.specs.Pass.Read.{accepted}
+use Rattle.std.proofs.Common.{Ok}
 use Rattle.record.specs.Record.{head_of, state_fields_at}
 use Rattle.states.specs.States.{event_of, state_at, channel_at, places_of}
 use Rattle.states.specs.Inner.{HasChannel}
@@ -24,7 +24,7 @@ use Rattle.run.proofs.Places.{stands, places_grow}
 use Rattle.run.proofs.Accepted.{Accepted, run_accepted}
 use Rattle.run.proofs.Sides.{run_processes, run_channels, run_channel, run_count, run_process, run_state, state_judged, run_sides}
 
-module _ (s : List ℕ) (read : read_of s ≡ accepted (states_of s)) where
+module _ (s : List ℕ) (read : read_of s ≡ Ok (states_of s)) where
   abbrev qs : List ℕ
   qs = states_of s
 

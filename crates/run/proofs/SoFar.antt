@@ -1,6 +1,6 @@
 -- The pass over a run so far: what is left from here gives the whole, and the index holds the states so far.
-use mathlib.Core.Path.{◌≡◌, sym, ap, ◌∙◌}
-use mathlib.Core.Logic.{inr, ⊎_elim}
+use mathlib.Core.Path.{◌≡◌, refl, sym, ap, ◌∙◌}
+use mathlib.Core.Logic.{⊎_elim}
 use mathlib.Core.Bool.{true, false}
 use mathlib.Core.List.{List, []}
 use Prim.Native.Nat.{ℕ, suc, ◌≤◌, ◌<◌}
@@ -9,25 +9,31 @@ use lib.ListN.{length, get_or, replicate, take, get_or-replicate, length-replica
 use lib.Seq.{get_or-take}
 use Rattle.model.proofs.Lists.{le_or_lt}
 use Rattle.model.proofs.Numbers.{never}
-use Rattle.record.specs.Pass.{Read, ended}
+use Rattle.record.specs.Pass.{Read, check_end}
 use Rattle.record.specs.Inner.{read_records}
-use Rattle.record.specs.Pass.Read.{refused}
+use Rattle.std.proofs.Common.{Ok, Err}
+use Rattle.record.specs.Refusal.{passed, refusal, and_then}
+use Rattle.record.specs.declared.reasons.Reason.{Reason}
 use Rattle.record.specs.Record.{head_of, record_at, step_at}
-use Rattle.record.specs.Refusal.{refusal}
 use Rattle.record.specs.declared.File.TheVariants.{Run}
 use Rattle.record.specs.declared.Refusal.{Refusal}
 use Rattle.record.specs.declared.Record.{Record}
 use Rattle.record.specs.declared.Record.TheVariants as R
-use Rattle.record.proofs.Pass.{by_end, Here, here_start, here_judged, here_end, here_more}
+use Rattle.record.proofs.Pass.{Here, here_start, here_judged, here_end, here_more}
 use Rattle.states.specs.States.{places_of}
-use Rattle.states.specs.Judge.{judge_no}
+use Rattle.states.specs.Judge.{check_record}
 use Rattle.states.proofs.Laws.{state_ok, state_there}
-use Rattle.run.specs.declared.RunReading.{RunReading}
-use Rattle.run.specs.Read.{counts_of, given, more, is_end, run_pass}
+use Rattle.run.specs.Read.{counts_of, more, is_end, run_pass}
 use Rattle.run.specs.Index.{Indexed, Fresh, index_size, partners_part}
 use Rattle.run.specs.Inner.{StateRoomy, StateNoted, reading, RunPassed}
 use Rattle.run.proofs.Indexing.{index_more, fresh_more}
 use Rattle.run.proofs.Accepted.{record_stepped, RunAlong, along_start, along_next}
+
+pub no_end : (r : Record) → (r ≡ R.End → ⊥) → is_end r ≡ false
+no_end (R.Head h) n = refl
+no_end (R.Channel l) n = refl
+no_end (R.State f) n = refl
+no_end R.End n = absurd (n refl)
 
 pub record IndexSoFar (s ix : List ℕ) (at : ℕ) : Type 0 where
   pub states : List ℕ
@@ -62,19 +68,18 @@ module _ (s ix : List ℕ) (at : ℕ) (w : IndexSoFar s ix at) where
   qs = w.states
 
   -- the counts of the index are those that the definition counts
-  judged : (r : Record) → judge_no s cs at r ≡ judge_no s (counts_of s qs) at r
-  judged r = ap (λ l. judge_no s l at r) w.index.counted
+  judged : (r : Record) → check_record s cs at r ≡ check_record s (counts_of s qs) at r
+  judged r = ap (λ l. check_record s l at r) w.index.counted
 
-  module _ (next : ℕ) (r : Record) (g : given (step_at s at) ≡ inr (r, next)) where
-    pub so_far_judged : (judge_no s cs at r ≡ 0 → ⊥) → read_records (run_pass s) ≡ refused (refusal Run (judge_no s cs at r) at)
-    so_far_judged n =
-        here_judged (run_pass s) w.here r next g (λ z. n (judged r ∙ z)) ∙ ap (λ k. refused (refusal Run k at)) (sym (judged r))
+  module _ (next : ℕ) (r : Record) (g : step_at s at ≡ Ok (r, next)) where
+    pub so_far_judged : (why : Reason) → check_record s cs at r ≡ Err why → read_records (run_pass s) ≡ Err (refusal Run why at)
+    so_far_judged why n = here_judged (run_pass s) w.here r next g why (sym (judged r) ∙ n)
 
-    pub so_far_end : judge_no s cs at r ≡ 0 → is_end r ≡ true → read_records (run_pass s) ≡ ended Run s next qs
+    pub so_far_end : check_record s cs at r ≡ passed → is_end r ≡ true → read_records (run_pass s) ≡ and_then (check_end Run s next) (λ u. Ok qs)
     so_far_end n e = here_end (run_pass s) w.here r next g (sym (judged r) ∙ n) e
 
     -- a state's process has a row, and the row has room
-    room_of : (r : Record) → (head_of s).processes ≤ 8 → judge_no s cs at r ≡ 0 → StateRoomy r ix
+    room_of : (r : Record) → (head_of s).processes ≤ 8 → check_record s cs at r ≡ passed → StateRoomy r ix
     room_of (R.Head h) few n = tt
     room_of (R.Channel m) few n = tt
     room_of R.End few n = tt
@@ -96,7 +101,7 @@ module _ (s ix : List ℕ) (at : ℕ) (w : IndexSoFar s ix at) where
           fresh_more s qs ix at f.process own w.index m.0 m.1 w.fresh,
         )
 
-    module _ (n : judge_no s cs at r ≡ 0) (e : is_end r ≡ false) where
+    module _ (n : check_record s cs at r ≡ passed) (e : is_end r ≡ false) where
       along : RunAlong s next (more r at qs)
       along = along_next s at next qs r w.along g (sym (judged r) ∙ n) e
 
@@ -118,15 +123,12 @@ module _ (s ix : List ℕ) (at : ℕ) (w : IndexSoFar s ix at) where
 
 -- ---- the pass's answer at each way out
 
-pub passed_refused : (s : List ℕ) {v : Read} (x : Refusal) (ix : List ℕ) {r : RunReading} → v ≡ refused x → r ≡ reading s (refused x) → RunPassed s v r ix
-passed_refused s x ix e a = record {
-  answer = a ∙ ap (reading s) (sym e);
-  index = λ qs z. never (cc);
-  fresh = λ qs z. never (cc);
-}
+pub passed_refused : (s : List ℕ) {v : Read} (x : Refusal) (ix : List ℕ) → v ≡ Err x → RunPassed s v (Err x) ix
+passed_refused s x ix e = record { answer = sym (ap (reading s) e); index = λ qs z. never (cc); fresh = λ qs z. never (cc) }
 
-pub passed_end : (s : List ℕ) {v : Read} (next : ℕ) (qs ix : List ℕ) {r : RunReading} → Indexed s qs ix → Fresh partners_part ix
-    → v ≡ ended Run s next qs → r ≡ reading s (ended Run s next []) → RunPassed s v r ix
-passed_end s {v} next qs ix {r} w f = by_end (λ end. v ≡ end qs → r ≡ reading s (end []) → RunPassed s v r ix) Run s next
-    (λ x e a. passed_refused s x ix e a)
-    (λ l e a. record { answer = a ∙ ap (reading s) (sym e); index = λ qs' z. let same : qs ≡ qs' = cc in rw (← same) w; fresh = λ qs' z. f })
+pub passed_end : (s : List ℕ) {v : Read} (qs ix : List ℕ) → Indexed s qs ix → Fresh partners_part ix → v ≡ Ok qs → RunPassed s v (Ok (head_of s)) ix
+passed_end s qs ix w f e = record {
+  answer = sym (ap (reading s) e);
+  index = λ qs' z. let same : qs ≡ qs' = cc in rw (← same) w;
+  fresh = λ qs' z. f;
+}

@@ -1,12 +1,11 @@
 -- What the index holds of an accepted run, 40,968 numbers: at 0 how many states each process has, at 8 the places of their records,
 -- at 4104 the other ends of sends and receives, at 8200 the clocks.
-use Rattle.std.specs.Prelude.{◌≡◌, ◌⊎◌, List, ℕ, ◌+◌, ◌-◌, ◌*◌, ◌≤◌, ◌<◌, length, get_or, set, take}
+use Rattle.std.specs.Prelude.{◌≡◌, ◌⊎◌, List, ℕ, ◌+◌, ◌-◌, ◌*◌, ◌≤◌, ◌<◌, length, get_or, set, take, Ok}
 use Rattle.model.specs.declared.Message.{Message}
 use Rattle.model.specs.declared.Event.TheVariants.{Send}
 use Rattle.model.specs.Run.{Run, into, channel, Paired}
 use Rattle.model.specs.Known.{Known}
 use Rattle.model.specs.Clocks.{Clocks}
-use Rattle.record.specs.Pass.Read.{accepted}
 use Rattle.states.specs.States.{places_of}
 use Rattle.run.specs.Read.{counts_of, read_of}
 use Rattle.run.specs.Said.{states_of, run_in}
@@ -49,7 +48,7 @@ pub record Indexed (s qs ix : List ℕ) : Type 0 where
 
 -- below 4104: what the pass leaves of a run that it accepts
 pub record Listed (s ix : List ℕ) : Type 0 where
-  pub read : read_of s ≡ accepted (states_of s)
+  pub read : read_of s ≡ Ok (states_of s)
   pub index : Indexed s (states_of s) ix
   pub long : length ix ≡ index_size
 

@@ -1,21 +1,13 @@
 -- Words of the contracts of the pass's inner functions; the promises don't use them.
-use Rattle.std.specs.Prelude.{◌≡◌, List, ℕ, ◌<◌, get_or}
+use Rattle.std.specs.Prelude.{◌≡◌, List, ℕ, ◌<◌, get_or, Result, Ok}
 use Rattle.record.specs.Pass.{Read}
-use Rattle.record.specs.Pass.Read.{refused, accepted}
-use Rattle.record.specs.Refusal.{refusal}
+use Rattle.record.specs.Refusal.{and_then}
+use Rattle.record.specs.declared.Refusal.{Refusal}
+use Rattle.record.specs.declared.Head.{Head}
 use Rattle.record.specs.Record.{head_of}
-use Rattle.record.specs.declared.File.TheVariants.{Run}
 use Rattle.record.specs.declared.Record.{Record}
 use Rattle.record.specs.declared.Record.TheVariants as R
-use Rattle.record.specs.declared.Step.{Step}
-use Rattle.record.specs.declared.Step.TheVariants as S
-use Rattle.run.specs.declared.RunReading.{RunReading}
-use Rattle.run.specs.declared.RunReading.TheVariants.{Accepted, Refused}
 use Rattle.run.specs.Index.{Indexed, with_state, Fresh, partners_part}
-
-abbrev pub hand_up : Step → RunReading
-hand_up (S.Refused x) = Refused x
-hand_up (S.Got r next) = Refused (refusal Run 0 0)
 
 -- a state's process has a row, and the row has room
 abbrev pub StateRoomy : Record → List ℕ → Type 0
@@ -32,12 +24,11 @@ StateNoted (R.State f) at ix ix' = ix' ≡ with_state ix f.process at
 StateNoted R.End at ix ix' = ix' ≡ ix
 
 -- the pass's answer
-abbrev pub reading : List ℕ → Read → RunReading
-reading s (refused x) = Refused x
-reading s (accepted qs) = Accepted (head_of s)
+abbrev pub reading : List ℕ → Read → Result Head Refusal
+reading s read = and_then read (λ qs. Ok (head_of s))
 
 -- what the pass leaves: its answer, and of an accepted run the states' part of the index
-pub record RunPassed (s : List ℕ) (v : Read) (r : RunReading) (ix : List ℕ) : Type 0 where
+pub record RunPassed (s : List ℕ) (v : Read) (r : Result Head Refusal) (ix : List ℕ) : Type 0 where
   pub answer : r ≡ reading s v
-  pub index : (qs : List ℕ) → v ≡ accepted qs → Indexed s qs ix
-  pub fresh : (qs : List ℕ) → v ≡ accepted qs → Fresh partners_part ix
+  pub index : (qs : List ℕ) → v ≡ Ok qs → Indexed s qs ix
+  pub fresh : (qs : List ℕ) → v ≡ Ok qs → Fresh partners_part ix

@@ -3,12 +3,3 @@
 
 pub mod index;
 pub mod pass;
-
-use record::{Head, Refusal};
-
-// What the pass gives, and what judging the whole run gives: the head of a run that is accepted, or the first refusal.
-#[derive(Clone, Copy)]
-pub enum RunReading {
-    Accepted(Head),
-    Refused(Refusal),
-}

@@ -1,5 +1,5 @@
--- `read_records` meets its contract. The invariant of its loop: what is left to read from here gives the whole, and the index holds the states
--- so far. The measure is what is left of the file.
+-- The invariant of the loop of `read_records`: what is left to read from here gives the whole, and the index holds the states so far. The measure
+-- is what is left of the file.
 use Prim.Native.Nat.{◌-◌}
 use lib.ListN.{length}
 use Rattle.run.proofs.SoFar.{IndexSoFar}
