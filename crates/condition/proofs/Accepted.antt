@@ -1,6 +1,6 @@
 -- What a condition that the pass accepts is: few clauses, each of them right, and so linear.
 use mathlib.Core.Path.{◌≡◌, refl, sym, subst}
-use mathlib.Core.Logic.{inr, ⊎_elim}
+use mathlib.Core.Logic.{⊎_elim}
 use mathlib.Core.Bool.{Bool, true, false, cond}
 use mathlib.Core.List.{List, [], ◌∷◌, ◌++◌}
 use Prim.Native.Nat.{ℕ, zero, suc, ◌+◌, ◌≤◌, ◌<◌}
@@ -15,7 +15,8 @@ use Rattle.model.specs.Linear.{linear, Linear}
 use Rattle.model.specs.Clause.Clause.{on}
 use Rattle.model.specs.declared.Mover.TheVariants.{Sender, Receiver, NotLinear}
 use Rattle.model.proofs.Lists.{T_and}
-use Rattle.record.specs.Pass.Read.{accepted}
+use Rattle.std.proofs.Common.{Ok}
+use Rattle.record.specs.Refusal.{passed}
 use Rattle.record.specs.declared.Head.{Head}
 use Rattle.record.proofs.Pass.{accepted_holds}
 use Rattle.condition.specs.declared.Local.{Local}
@@ -25,8 +26,8 @@ use Rattle.condition.specs.declared.Item.{Item}
 use Rattle.condition.specs.Clauses.{test_of, local_at, test_at, held_at, clauses_of}
 use Rattle.condition.specs.Known.{clause_at}
 use Rattle.condition.specs.Items.{step_at}
-use Rattle.condition.specs.Judge.{judge_no}
-use Rattle.condition.specs.Read.{given, is_end, condition_pass, read_of, clauses_in}
+use Rattle.condition.specs.Judge.{check_item}
+use Rattle.condition.specs.Read.{is_end, condition_pass, read_of, clauses_in}
 use Rattle.condition.specs.Known.{LocalKnown, TestKnown, ClauseKnown, ConditionKnown}
 use Rattle.condition.proofs.Laws.{by_place, item_stepped, head_few, clause_known}
 
@@ -53,12 +54,12 @@ module _ (s : List ℕ) (h : Head) where
       bound l = omega (arith, length-append qs (at ∷ []))
 
   -- behind any record but the end
-  pub along_next : (at next : ℕ) (k : ℕ × List ℕ) (r : Item) → ConditionAlong at k → given (step_at s at k.0) ≡ inr (r, next) → judge_no h r ≡ 0 → is_end r ≡ false
+  pub along_next : (at next : ℕ) (k : ℕ × List ℕ) (r : Item) → ConditionAlong at k → step_at s at k.0 ≡ Ok (r, next) → check_item h r ≡ passed → is_end r ≡ false
       → ConditionAlong next ((condition_pass s h).more r at k)
   along_next at next k r w g =
       let d = item_stepped s at k.0 next r g in
       let past : next ≡ 0 → ⊥ = λ z. omega (arith, d.further) in
-      let Behind : Item → Type 0 = λ r. judge_no h r ≡ 0 → is_end r ≡ false → ConditionAlong next ((condition_pass s h).more r at k) in
+      let Behind : Item → Type 0 = λ r. check_item h r ≡ passed → is_end r ≡ false → ConditionAlong next ((condition_pass s h).more r at k) in
       subst Behind (sym d.item) (by_place s at k.0 d.opening Behind
       (λ z y n e. record { start = λ x. absurd (past x); room = omega (arith, head_few _ n, w.start z); clauses = w.clauses })
       (λ z y m n e. never (cc))
@@ -70,7 +71,7 @@ module _ (s : List ℕ) (h : Head) where
 
   -- ---- what an accepted condition is
 
-  pub condition_known : (qs : List ℕ) → read_of s h ≡ accepted qs → ConditionKnown s h qs
+  pub condition_known : (qs : List ℕ) → read_of s h ≡ Ok qs → ConditionKnown s h qs
   unfolding read_of
   condition_known qs e =
       let w = accepted_holds (condition_pass s h) ConditionAlong (λ qs. length s ≤ 65535 → ConditionKnown s h qs) along_next
@@ -111,7 +112,7 @@ module _ (s : List ℕ) (h : Head) where
   known_linear (q ∷ qs) w =
       T_and (linear (clause_at s q)) (every_of linear (clauses_of s qs)) (clause_linear q (w 0 (omega arith))) (known_linear qs (λ k l. w (suc k) (omega arith)))
 
-  pub condition_linear : (qs : List ℕ) → read_of s h ≡ accepted qs → Linear (clauses_of s qs)
+  pub condition_linear : (qs : List ℕ) → read_of s h ≡ Ok qs → Linear (clauses_of s qs)
   condition_linear qs e = known_linear qs (condition_known qs e).clauses
 
   -- ---- the clauses one by one
@@ -132,7 +133,7 @@ module _ (s : List ℕ) (h : Head) where
       w.kind
 
   -- the clauses that the bytes say
-  pub clauses-in : (qs : List ℕ) → read_of s h ≡ accepted qs → clauses_in s h ≡ clauses_of s qs
+  pub clauses-in : (qs : List ℕ) → read_of s h ≡ Ok qs → clauses_in s h ≡ clauses_of s qs
   unfolding clauses_in
   clauses-in qs e = rw e
 

@@ -11,43 +11,42 @@ use lib.ListN.{length}
 use Rattle.model.proofs.Numbers.{never, positive}
 use Rattle.model.specs.Clause.{mover}
 use Rattle.record.specs.Bytes.{u16_at}
-use Rattle.record.specs.Refusal.{refusal}
-use Rattle.record.specs.Refusal.Reason.{wrong_length, wrong_kind, limit, name, field, not_linear}
-use Rattle.record.specs.Record.{length_at, kind_at, frame_no}
+use Rattle.std.proofs.Common.{Ok, Err}
+use Rattle.record.specs.Refusal.{Check, passed, at_fault, and_then}
+use Rattle.record.specs.declared.reasons.Reason.TheVariants.{WrongLength, WrongKind, Limit, Name, Field, NotLinear}
+use Rattle.record.specs.Record.{length_at, kind_at}
 use Rattle.record.specs.declared.Head.{Head}
 use Rattle.record.specs.declared.File.TheVariants.{Condition}
-use Rattle.record.proofs.Laws.{or_if_ok, or_if_stop, Framed, framed}
+use Rattle.record.proofs.Laws.{then_ok, refuse_if_ok, Framed, framed}
 use Rattle.condition.specs.declared.Local.{Local}
 use Rattle.condition.specs.declared.Test.{Test}
 use Rattle.condition.specs.declared.Item.{Item}
 use Rattle.condition.specs.declared.Item.TheVariants as I
-use Rattle.condition.specs.declared.ConditionStep.TheVariants as S
 use Rattle.condition.specs.Clauses.{test_of, local_at, test_at, held_at}
-use Rattle.condition.specs.Items.{due, length_of, step_no, item_at, step_at}
-use Rattle.condition.specs.Judge.{may_move, head_no, local_no, test_no, clause_no}
-use Rattle.condition.specs.Read.{given}
+use Rattle.condition.specs.Items.{due, length_of, check_step, item_at, step_at}
+use Rattle.condition.specs.Judge.{may_move, check_head, check_local, check_test, check_clause}
 use Rattle.condition.specs.Known.{Whole, LocalKnown, TestKnown, ClauseKnown}
 
 -- ---- a record that the step accepts
-
-pub step_stop : (s : List ℕ) (at owed : ℕ) → (frame_no s at ≡ 0 → ⊥) → step_no s at owed ≡ frame_no s at
-unfolding step_no
-step_stop s at owed h = rw (or_if_stop (frame_no s at) _ wrong_kind h) (or_if_stop (frame_no s at) _ wrong_length h)
 
 pub record ItemOpened (s : List ℕ) (at owed : ℕ) : Type 0 where
   pub frame : Framed s at
   pub kind : due at owed (kind_at s at) ≡ true
   pub size : length_at s at ≡ length_of (kind_at s at)
 
-pub item_opened : (s : List ℕ) (at owed : ℕ) → step_no s at owed ≡ 0 → ItemOpened s at owed
-unfolding step_no
+pub item_opened : (s : List ℕ) (at owed : ℕ) → check_step s at owed ≡ passed → ItemOpened s at owed
+unfolding check_step
 item_opened s at owed h =
-    let a = or_if_ok _ _ wrong_length h in
-    let b = or_if_ok _ _ wrong_kind a.0 in
-    record { frame = framed s at b.0; kind = not-false _ b.1; size = eqb-true _ _ (not-false _ a.1) }
+    let a = then_ok _ _ h in
+    let b = then_ok _ _ a.1 in
+    record {
+      frame = framed s at a.0;
+      kind = not-false _ (refuse_if_ok _ WrongKind b.0);
+      size = eqb-true _ _ (not-false _ (refuse_if_ok _ WrongLength b.1));
+    }
 
 -- by where it stands: the head first, then the clauses that are owed, then the end
-module _ (s : List ℕ) (at owed : ℕ) (o : step_no s at owed ≡ 0) where
+module _ (s : List ℕ) (at owed : ℕ) (o : check_step s at owed ≡ passed) where
   pub by_due : {P : Type 0} → (at ≡ 0 → kind_at s at ≡ 16 → P) → ((at ≡ 0 → ⊥) → owed ≡ 0 → kind_at s at ≡ 4 → P)
       → ((at ≡ 0 → ⊥) → (owed ≡ 0 → ⊥) → (kind_at s at ≡ 17) ⊎ (kind_at s at ≡ 18) → P) → P
   unfolding due
@@ -89,40 +88,42 @@ module _ (s : List ℕ) (at owed : ℕ) (o : step_no s at owed ≡ 0) where
 -- ---- a step that gives a record
 
 pub record ItemStepped (s : List ℕ) (at owed next : ℕ) (r : Item) : Type 0 where
-  pub opening : step_no s at owed ≡ 0
+  pub opening : check_step s at owed ≡ passed
   pub item : r ≡ item_at s at
   pub further : at < next
   pub within : next ≤ length s
 
-pub item_stepped : (s : List ℕ) (at owed next : ℕ) (r : Item) → given (step_at s at owed) ≡ inr (r, next) → ItemStepped s at owed next r
+pub item_stepped : (s : List ℕ) (at owed next : ℕ) (r : Item) → step_at s at owed ≡ Ok (r, next) → ItemStepped s at owed next r
 unfolding step_at
-item_stepped s at owed next r e = go (eqb (step_no s at owed) 0) refl e
+item_stepped s at owed next r e = go (check_step s at owed) refl e
   where
-    go : (t : Bool) → eqb (step_no s at owed) 0 ≡ t
-        → given (cond t (S.Got (item_at s at) (at + length_at s at)) (S.Refused (refusal Condition (step_no s at owed) at))) ≡ inr (r, next)
+    go : (t : Check) → check_step s at owed ≡ t → and_then {B = Item × ℕ} (at_fault Condition at t) (λ u. Ok (item_at s at, at + length_at s at)) ≡ Ok (r, next)
         → ItemStepped s at owed next r
-    go true k e =
-        let o = eqb-true _ 0 k in
-        let f = (item_opened s at owed o).frame in
+    go (Ok u) k e =
+        let f = (item_opened s at owed k).frame in
         let same : ◌≡◌ {A = Item × ℕ} (r, next) (item_at s at, at + length_at s at) = cc in
         let n = ap (λ x. x.1) same in
-        record { opening = o; item = ap (λ x. x.0) same; further = omega (arith, f.long); within = omega (arith, f.whole) }
-    go false k e = never (cc)
+        record { opening = k; item = ap (λ x. x.0) same; further = omega (arith, f.long); within = omega (arith, f.whole) }
+    go (Err why) k e = never (cc)
 
 -- ---- a record that is judged right
 
-pub head_few : (clauses : ℕ) → head_no clauses ≡ 0 → clauses ≤ 32
-unfolding head_no
-head_few clauses e = ltb-false _ _ (or_if_ok 0 _ limit e).1
+pub head_few : (clauses : ℕ) → check_head clauses ≡ passed → clauses ≤ 32
+unfolding check_head
+head_few clauses e = ltb-false _ _ (refuse_if_ok _ Limit e)
 
-pub local_known : (h : Head) (l : Local) → local_no h l ≡ 0 → LocalKnown h l
-unfolding local_no
+pub local_known : (h : Head) (l : Local) → check_local h l ≡ passed → LocalKnown h l
+unfolding check_local
 local_known h l e =
-    let a = or_if_ok _ _ field e in
-    let b = or_if_ok _ _ field a.0 in
-    let d = or_if_ok _ _ name b.0 in
-    let f = or_if_ok _ _ name d.0 in
-    record { process = leb-false _ _ f.1; value = leb-false _ _ d.1; some = positive (eqb-false _ 0 b.1); known = ltb-false _ _ a.1 }
+    let a = then_ok _ _ e in
+    let b = then_ok _ _ a.1 in
+    let d = then_ok _ _ b.1 in
+    record {
+      process = leb-false _ _ (refuse_if_ok _ Name a.0);
+      value = leb-false _ _ (refuse_if_ok _ Name b.0);
+      some = positive (eqb-false _ 0 (refuse_if_ok _ Field d.0));
+      known = ltb-false _ _ (refuse_if_ok _ Field d.1);
+    }
 
 -- 8 and 9 name nobody
 moves : (n x : ℕ) → may_move (mover (test_of n x) 0) ≡ true → n ≤ 9 → n ≤ 7
@@ -135,16 +136,19 @@ moves n x e l = seven n l (λ z. nobody 8 z refl) (λ z. nobody 9 z refl)
     seven : (n : ℕ) → n ≤ 9 → (n ≡ 8 → ⊥) → (n ≡ 9 → ⊥) → n ≤ 7
     seven n l a b = omega arith
 
-pub test_known : (h : Head) (t : Test) → test_no h t ≡ 0 → TestKnown h t
-unfolding test_no
+pub test_known : (h : Head) (t : Test) → check_test h t ≡ passed → TestKnown h t
+unfolding check_test
 test_known h t e =
-    let a = or_if_ok _ _ not_linear e in
-    let b = or_if_ok _ _ field a.0 in
-    let d = or_if_ok _ _ field b.0 in
-    let f = or_if_ok _ _ name d.0 in
-    record { channel = leb-false _ _ f.1; some = positive (eqb-false _ 0 d.1); linear = moves _ _ (not-false _ a.1) (ltb-false _ _ b.1) }
+    let a = then_ok _ _ e in
+    let b = then_ok _ _ a.1 in
+    let d = then_ok _ _ b.1 in
+    record {
+      channel = leb-false _ _ (refuse_if_ok _ Name a.0);
+      some = positive (eqb-false _ 0 (refuse_if_ok _ Field b.0));
+      linear = moves _ _ (not-false _ (refuse_if_ok _ NotLinear d.1)) (ltb-false _ _ (refuse_if_ok _ Field d.0));
+    }
 
-pub clause_known : (s : List ℕ) (h : Head) (at owed : ℕ) → step_no s at owed ≡ 0 → (kind_at s at ≡ 17) ⊎ (kind_at s at ≡ 18) → clause_no h (held_at s at) ≡ 0
+pub clause_known : (s : List ℕ) (h : Head) (at owed : ℕ) → check_step s at owed ≡ passed → (kind_at s at ≡ 17) ⊎ (kind_at s at ≡ 18) → check_clause h (held_at s at) ≡ passed
     → ClauseKnown s h at
 unfolding held_at
 clause_known s h at owed o w n = record {

@@ -1,6 +1,6 @@
 -- The pass over a condition so far: what is left from here gives the whole, and the row holds the places of the clauses so far.
 use mathlib.Core.Path.{◌≡◌, refl, sym, ap, ◌∙◌}
-use mathlib.Core.Logic.{inr, ⊎_elim}
+use mathlib.Core.Logic.{⊎_elim}
 use mathlib.Core.Bool.{false}
 use mathlib.Core.List.{List, [], ◌∷◌, ◌++◌}
 use Prim.Native.Nat.{ℕ, ◌+◌, ◌≤◌, ◌<◌}
@@ -9,18 +9,17 @@ use native.Mathlib.Omega.{arith}
 use lib.ListN.{length, get_or, set, length-append, get_or-append}
 use lib.Seq.{get_or-append_seam, get_or-set_same, get_or-set_other}
 use Rattle.model.proofs.Numbers.{never}
-use Rattle.record.specs.Pass.{Read, ended}
-use Rattle.record.specs.Pass.Read.{refused}
-use Rattle.record.specs.declared.File.TheVariants.{Condition}
+use Rattle.std.proofs.Common.{Ok, Err}
+use Rattle.record.specs.Pass.{Read}
+use Rattle.record.specs.Refusal.{passed}
 use Rattle.record.specs.declared.Head.{Head}
 use Rattle.record.specs.declared.Refusal.{Refusal}
-use Rattle.record.proofs.Pass.{by_end, Here, here_start, here_more}
+use Rattle.record.proofs.Pass.{Here, here_start, here_more}
 use Rattle.condition.specs.declared.Item.{Item}
 use Rattle.condition.specs.declared.Item.TheVariants as I
-use Rattle.condition.specs.declared.ConditionReading.{ConditionReading}
 use Rattle.condition.specs.Items.{step_at}
-use Rattle.condition.specs.Judge.{judge_no}
-use Rattle.condition.specs.Read.{given, more, owing, is_end, condition_pass}
+use Rattle.condition.specs.Judge.{check_item}
+use Rattle.condition.specs.Read.{more, owing, is_end, condition_pass}
 use Rattle.condition.specs.Inner.{ClauseRoomy, ClauseNoted, reading, ConditionPassed}
 use Rattle.condition.proofs.Laws.{by_place, item_stepped}
 use Rattle.condition.proofs.Accepted.{ConditionAlong, along_start, along_next}
@@ -51,6 +50,11 @@ placed_more qs ps count at w l = record { counted = omega (arith, longer, w.coun
         before : k < length qs → get_or (set ps count at) k 0 ≡ get_or (qs ++ (at ∷ [])) k 0
         before z = get_or-set_other ps count k at 0 (λ y. omega (arith, w.counted)) ∙ w.placed k z ∙ sym (get_or-append qs (at ∷ []) 0 k z)
 
+pub no_end : (r : Item) → (r ≡ I.End → ⊥) → is_end r ≡ false
+no_end (I.Head clauses) n = refl
+no_end (I.Clause c) n = refl
+no_end I.End n = absurd (n refl)
+
 pub record RowSoFar (s : List ℕ) (h : Head) (ps : List ℕ) (at owed count : ℕ) : Type 0 where
   pub clauses : List ℕ
   pub here : Here (condition_pass s h) at (owed, clauses)
@@ -69,7 +73,7 @@ module _ (s : List ℕ) (h : Head) (ps : List ℕ) (at owed count : ℕ) (w : Ro
   abbrev qs : List ℕ
   qs = w.clauses
 
-  module _ (next : ℕ) (r : Item) (g : given (step_at s at owed) ≡ inr (r, next)) where
+  module _ (next : ℕ) (r : Item) (g : step_at s at owed ≡ Ok (r, next)) where
     -- what keeping a clause's place requires
     pub so_far_roomy : ClauseRoomy r owed count
     so_far_roomy =
@@ -86,7 +90,7 @@ module _ (s : List ℕ) (h : Head) (ps : List ℕ) (at owed count : ℕ) (w : Ro
     row_of long (I.Clause c) m count' ps' v = rw (v.0, v.1) (placed_more qs ps count at w.row (omega (arith, m.1)))
     row_of long I.End m count' ps' v = rw (v.0, v.1) w.row
 
-    pub so_far_more : judge_no h r ≡ 0 → is_end r ≡ false → length ps ≡ 32 → (count' : ℕ) (ps' : List ℕ) → ClauseNoted r at count ps count' ps'
+    pub so_far_more : check_item h r ≡ passed → is_end r ≡ false → length ps ≡ 32 → (count' : ℕ) (ps' : List ℕ) → ClauseNoted r at count ps count' ps'
         → RowSoFar s h ps' next (owing r owed) count'
     so_far_more n e long count' ps' v = let d = item_stepped s at owed next r g in record {
       clauses = more r at qs;
@@ -97,11 +101,11 @@ module _ (s : List ℕ) (h : Head) (ps : List ℕ) (at owed count : ℕ) (w : Ro
 
 -- ---- the pass's answer at each way out
 
-pub passed_refused : {v : Read} (x : Refusal) (ps : List ℕ) {r : ConditionReading} → v ≡ refused x → r ≡ reading (refused x) → ConditionPassed v r ps
-passed_refused x ps e a = record { answer = a ∙ ap reading (sym e); placed = λ qs z. never (cc) }
+pub passed_refused : {v : Read} (x : Refusal) (ps : List ℕ) → v ≡ Err x → ConditionPassed v (Err x) ps
+passed_refused x ps e = record { answer = sym (ap reading e); placed = λ qs z. never (cc) }
 
-pub passed_end : (s : List ℕ) {v : Read} (next : ℕ) (qs ps : List ℕ) (count : ℕ) {r : ConditionReading} → RowHolds qs ps count
-    → v ≡ ended Condition s next qs → r ≡ reading (ended Condition s next qs) → ConditionPassed v r ps
-passed_end s {v} next qs ps count {r} w = by_end (λ end. v ≡ end qs → r ≡ reading (end qs) → ConditionPassed v r ps) Condition s next
-    (λ x e a. passed_refused x ps e a)
-    (λ l e a. record { answer = a ∙ ap reading (sym e); placed = λ qs' z. let same : qs ≡ qs' = cc in rw (← same) w.placed })
+pub passed_end : {v : Read} (qs ps : List ℕ) (count : ℕ) → RowHolds qs ps count → v ≡ Ok qs → ConditionPassed v (Ok count) ps
+passed_end qs ps count w e = record {
+  answer = ap Ok w.counted ∙ sym (ap reading e);
+  placed = λ qs' z. let same : qs ≡ qs' = cc in rw (← same) w.placed;
+}

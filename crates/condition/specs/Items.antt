@@ -1,14 +1,13 @@
 -- What stands in a condition at a place: the record with the place after it, or else the refusal 2, 3, 2, 4, 3.
-use Rattle.std.specs.Prelude.{Bool, not, cond, ◌||◌, List, ℕ, ◌+◌, eqb}
+use Rattle.std.specs.Prelude.{Bool, not, cond, ◌||◌, List, ℕ, ◌+◌, eqb, Result, Ok}
 use Rattle.record.specs.Bytes.{u16_at}
-use Rattle.record.specs.Record.{length_at, kind_at, frame_no}
-use Rattle.record.specs.Refusal.{number, or_if, refusal}
-use Rattle.record.specs.Refusal.Reason.{wrong_length, wrong_kind}
+use Rattle.record.specs.Record.{length_at, kind_at, check_frame}
+use Rattle.record.specs.Refusal.{Check, refuse_if, ◌then◌, at_fault, and_then}
+use Rattle.record.specs.declared.reasons.Reason.TheVariants.{WrongLength, WrongKind}
+use Rattle.record.specs.declared.Refusal.{Refusal}
 use Rattle.record.specs.declared.File.TheVariants.{Condition}
 use Rattle.condition.specs.declared.Item.{Item}
 use Rattle.condition.specs.declared.Item.TheVariants as I
-use Rattle.condition.specs.declared.ConditionStep.{ConditionStep}
-use Rattle.condition.specs.declared.ConditionStep.TheVariants.{Got, Refused}
 use Rattle.condition.specs.Clauses.{held_at}
 
 -- the kind may stand at the place: the head, then the clauses that are owed, then the end
@@ -19,11 +18,11 @@ due at owed kind = cond (eqb at 0) (eqb kind 16) (cond (eqb owed 0) (eqb kind 4)
 abbrev pub length_of : ℕ → ℕ
 length_of kind = cond (eqb kind 4) 4 (cond (eqb kind 16) 6 (cond (eqb kind 17) 14 (cond (eqb kind 18) 12 0)))
 
-unfoldable pub step_no : List ℕ → ℕ → ℕ → ℕ
-step_no s at owed =
-    or_if (or_if (frame_no s at)
-    (not (due at owed (kind_at s at))) (number wrong_kind))
-    (not (eqb (length_at s at) (length_of (kind_at s at)))) (number wrong_length)
+unfoldable pub check_step : List ℕ → ℕ → ℕ → Check
+check_step s at owed =
+    check_frame s at
+    then refuse_if (not (due at owed (kind_at s at))) WrongKind
+    then refuse_if (not (eqb (length_at s at) (length_of (kind_at s at)))) WrongLength
 
 unfoldable pub item_at : List ℕ → ℕ → Item
 item_at s at =
@@ -31,5 +30,5 @@ item_at s at =
     (cond (eqb (kind_at s at) 4) I.End
     (I.Clause (held_at s at)))
 
-unfoldable pub step_at : List ℕ → ℕ → ℕ → ConditionStep
-step_at s at owed = cond (eqb (step_no s at owed) 0) (Got (item_at s at) (at + length_at s at)) (Refused (refusal Condition (step_no s at owed) at))
+unfoldable pub step_at : List ℕ → ℕ → ℕ → Result (Item × ℕ) Refusal
+step_at s at owed = and_then (at_fault Condition at (check_step s at owed)) (λ u. Ok (item_at s at, at + length_at s at))

@@ -1,22 +1,14 @@
 -- Reading a condition beside an accepted run's head: the first refusal, or the places of its clauses in file order.
-use Rattle.std.specs.Prelude.{◌⊎◌, Bool, true, false, List, [], ◌∷◌, ◌++◌, ℕ, ◌-◌}
-use Rattle.std.proofs.Common.{inl, inr}
+use Rattle.std.specs.Prelude.{Bool, true, false, List, [], ◌∷◌, ◌++◌, ℕ, ◌-◌}
 use Rattle.model.specs.Clause as M
 use Rattle.record.specs.Pass.{Read, places_in, Pass, read_file}
 use Rattle.record.specs.declared.File.TheVariants.{Condition}
 use Rattle.record.specs.declared.Head.{Head}
-use Rattle.record.specs.declared.Refusal.{Refusal}
 use Rattle.condition.specs.declared.Item.{Item}
 use Rattle.condition.specs.declared.Item.TheVariants as I
-use Rattle.condition.specs.declared.ConditionStep.{ConditionStep}
-use Rattle.condition.specs.declared.ConditionStep.TheVariants as S
 use Rattle.condition.specs.Clauses.{clauses_of}
 use Rattle.condition.specs.Items.{step_at}
-use Rattle.condition.specs.Judge.{judge_no}
-
-abbrev pub given : ConditionStep → Refusal ⊎ (Item × ℕ)
-given (S.Got r next) = inr (r, next)
-given (S.Refused x) = inl x
+use Rattle.condition.specs.Judge.{check_item}
 
 abbrev pub is_end : Item → Bool
 is_end (I.Head clauses) = false
@@ -38,7 +30,7 @@ owing I.End owed = owed
 -- what is known along the pass: how many clauses are owed, and the places of those so far
 abbrev pub condition_pass : List ℕ → Head → Pass Item (ℕ × List ℕ)
 condition_pass s h =
-    record { file = Condition; bytes = s; start = (0, []); places = λ k. k.1; is_end = is_end; more = λ r at k. (owing r k.0, more r at k.1); step = λ at k. given (step_at s at k.0); judge = λ at k r. judge_no h r }
+    record { file = Condition; bytes = s; start = (0, []); places = λ k. k.1; is_end = is_end; more = λ r at k. (owing r k.0, more r at k.1); step = λ at k. step_at s at k.0; judge = λ at k r. check_item h r }
 
 unfoldable pub read_of : List ℕ → Head → Read
 read_of s h = read_file (condition_pass s h)

@@ -6,6 +6,7 @@ ghost use Rattle.condition.specs.Known.{Whole};
 use crate::{Clause, Local, Test};
 use record::bytes::{i32_at, u16_at, u32_at};
 
+#[tactic(auto, unfolding(crate::specs::Clauses::local_at))]
 fn local_at(cond: &[u8], at: usize) -> Local
     requires { at + 14 ≤ length cond.now }
     ensures { result ≡ local_at cond.now at }
@@ -22,6 +23,7 @@ fn local_at(cond: &[u8], at: usize) -> Local
     }
 }
 
+#[tactic(auto, unfolding(crate::specs::Clauses::test_at))]
 fn test_at(cond: &[u8], at: usize) -> Test
     requires { at + 12 ≤ length cond.now }
     ensures { result ≡ test_at cond.now at }
@@ -37,6 +39,7 @@ fn test_at(cond: &[u8], at: usize) -> Test
 }
 
 // The clause whose whole record stands at a place.
+#[tactic(auto, unfolding(crate::specs::Clauses::held_at))]
 pub fn clause_at(cond: &[u8], at: usize) -> Clause
     requires { Whole cond.now at }
     ensures { result ≡ held_at cond.now at }

@@ -1,29 +1,31 @@
-// Which refusal a record of a condition gets beside the run's head, 0 where it gets none: a line a test, in the paper's order.
+// What the tests say of a record of a condition beside the run's head: nothing, or why it is refused. A line a test, in the paper's order.
 ghost use Rattle.std.specs.Prelude.{◌≡◌};
-ghost use Rattle.condition.specs.Judge.{may_move, head_no, local_no, test_no, clause_no, judge_no};
+ghost use Rattle.condition.specs.Judge.{may_move, check_head, check_local, check_test, check_clause, check_item};
 
 use crate::movers::who_moves;
 use crate::{Clause, Item, Local, Test};
 use model::Mover;
 use record::Head;
 use record::layout::VALUE_COUNT;
-use record::reasons::{FIELD, LIMIT, NAME, NOT_LINEAR, or_if};
+use record::reasons::{Reason, refuse_if};
 
 // 5: the number of clauses.
-fn head_no(clauses: u16) -> u16
-    ensures { result ≡ head_no clauses }
+#[tactic(auto, unfolding(crate::specs::Judge::check_head))]
+fn check_head(clauses: u16) -> Result<(), Reason>
+    ensures { result ≡ check_head clauses }
 {
-    or_if(0, 32 < clauses, LIMIT)
+    refuse_if(32 < clauses, Reason::Limit)
 }
 
 // 7, 8: the process and the value have to exist, the comparison is known.
-fn local_no(head: Head, l: Local) -> u16
-    ensures { result ≡ local_no head l }
+#[tactic(auto, unfolding(crate::specs::Judge::check_local))]
+fn check_local(head: Head, l: Local) -> Result<(), Reason>
+    ensures { result ≡ check_local head l }
 {
-    let number = or_if(0, head.processes <= l.process, NAME);
-    let number = or_if(number, VALUE_COUNT <= l.value, NAME);
-    let number = or_if(number, l.comparison == 0, FIELD);
-    or_if(number, 4 < l.comparison, FIELD)
+    refuse_if(head.processes <= l.process, Reason::Name)?;
+    refuse_if(VALUE_COUNT <= l.value, Reason::Name)?;
+    refuse_if(l.comparison == 0, Reason::Field)?;
+    refuse_if(4 < l.comparison, Reason::Field)
 }
 
 // Somebody is named who has to move.
@@ -38,33 +40,33 @@ fn may_move(mover: Mover) -> bool
 }
 
 // 7, 8, 14: the channel has to exist, the test is known and linear.
-fn test_no(head: Head, t: Test) -> u16
-    ensures { result ≡ test_no head t }
+#[tactic(auto, unfolding(crate::specs::Judge::check_test))]
+fn check_test(head: Head, t: Test) -> Result<(), Reason>
+    ensures { result ≡ check_test head t }
 {
-    let test = t.test;
-    let linear = may_move(who_moves(test, t.operand, 0));
-    let number = or_if(0, head.channels <= t.channel, NAME);
-    let number = or_if(number, test == 0, FIELD);
-    let number = or_if(number, 9 < test, FIELD);
-    or_if(number, !linear, NOT_LINEAR)
+    let linear = may_move(who_moves(t.test, t.operand, 0));
+    refuse_if(head.channels <= t.channel, Reason::Name)?;
+    refuse_if(t.test == 0, Reason::Field)?;
+    refuse_if(9 < t.test, Reason::Field)?;
+    refuse_if(!linear, Reason::NotLinear)
 }
 
-fn clause_no(head: Head, clause: Clause) -> u16
-    ensures { result ≡ clause_no head clause }
+fn check_clause(head: Head, clause: Clause) -> Result<(), Reason>
+    ensures { result ≡ check_clause head clause }
 {
     match clause {
-        Clause::Local(l) => local_no(head, l),
-        Clause::Channel(t) => test_no(head, t),
+        Clause::Local(l) => check_local(head, l),
+        Clause::Channel(t) => check_test(head, t),
     }
 }
 
 // What the step accepted, judged beside the run's head.
-pub(crate) fn judge_no(head: Head, item: Item) -> u16
-    ensures { result ≡ judge_no head item }
+pub(crate) fn check_item(head: Head, item: Item) -> Result<(), Reason>
+    ensures { result ≡ check_item head item }
 {
     match item {
-        Item::Head(clauses) => head_no(clauses),
-        Item::Clause(clause) => clause_no(head, clause),
-        Item::End => 0,
+        Item::Head(clauses) => check_head(clauses),
+        Item::Clause(clause) => check_clause(head, clause),
+        Item::End => Ok(()),
     }
 }

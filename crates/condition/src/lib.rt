@@ -8,8 +8,6 @@ pub mod movers;
 pub mod pass;
 pub mod reading;
 
-use record::Refusal;
-
 // A local clause as its record says it.
 #[derive(Clone, Copy)]
 pub struct Local {
@@ -39,18 +37,4 @@ pub enum Item {
     Head(u16),
     Clause(Clause),
     End,
-}
-
-// A record of a condition with the place after it, or else the refusal.
-#[derive(Clone, Copy)]
-pub enum ConditionStep {
-    Got(Item, usize),
-    Refused(Refusal),
-}
-
-// What the pass gives: the number of clauses of a condition that it accepts, or the first refusal.
-#[derive(Clone, Copy)]
-pub enum ConditionReading {
-    Accepted(u16),
-    Refused(Refusal),
 }

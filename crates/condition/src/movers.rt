@@ -6,6 +6,7 @@ ghost use Rattle.condition.specs.Clauses.{test_of};
 use model::Mover;
 
 // Beside the number of messages in transit. A number that is no test names nobody.
+#[tactic(auto, unfolding(crate::specs::Clauses::test_of))]
 pub fn who_moves(test: u16, operand: u32, count: usize) -> Mover
     ensures { result ≡ mover (test_of test operand) count }
 {

@@ -1,16 +1,17 @@
 // The reading step of a condition, over bytes and a place apart.
 ghost use Rattle.std.specs.Prelude.{◌≡◌};
-ghost use Rattle.condition.specs.Items.{due, length_of, step_no, item_at, step_at};
+ghost use Rattle.condition.specs.Items.{due, length_of, check_step, item_at, step_at};
 ghost use Rattle.condition.specs.Inner.{Taken};
 
+use crate::Item;
 use crate::clauses::clause_at;
-use crate::{ConditionStep, Item};
-use record::File;
 use record::bytes::u16_at;
-use record::reading::frame_no;
-use record::reasons::{KIND, LENGTH, or_if, refusal_of};
+use record::reading::check_frame;
+use record::reasons::{Reason, at_fault, refuse_if};
+use record::{File, Refusal};
 
 // Whether a kind may stand at a place: the head, then the clauses that are owed, then the end.
+#[tactic(auto, unfolding(crate::specs::Items::due))]
 fn is_due(at: usize, owed: u16, kind: u16) -> bool
     ensures { result ≡ due at owed kind }
 {
@@ -37,20 +38,19 @@ fn length_of(kind: u16) -> usize
 }
 
 // 2, 3, 2, 4, 3: the frame, the kind, the kind's length.
-fn step_no(cond: &[u8], at: usize, owed: u16) -> u16
-    ensures { result ≡ step_no cond.now at owed }
+#[tactic(auto, unfolding(crate::specs::Items::check_step))]
+fn check_step(cond: &[u8], at: usize, owed: u16) -> Result<(), Reason>
+    ensures { result ≡ check_step cond.now at owed }
 {
-    let frame = frame_no(cond, at);
-    if frame != 0 {
-        return frame;
-    }
+    check_frame(cond, at)?;
     let length = u16_at(cond, at) as usize;
     let kind = u16_at(cond, at + 2);
-    let number = or_if(0, !is_due(at, owed, kind), KIND);
-    or_if(number, length != length_of(kind), LENGTH)
+    refuse_if(!is_due(at, owed, kind), Reason::WrongKind)?;
+    refuse_if(length != length_of(kind), Reason::WrongLength)
 }
 
 // What stands in the record at a place, which the step accepts.
+#[tactic(auto, unfolding(crate::specs::Items::item_at))]
 fn item_at(cond: &[u8], at: usize) -> Item
     requires { Taken cond.now at }
     ensures { result ≡ item_at cond.now at }
@@ -64,14 +64,12 @@ fn item_at(cond: &[u8], at: usize) -> Item
 }
 
 // The record at a place with the place after it, or else the refusal, where so many clauses are still owed.
-pub fn step(cond: &[u8], at: usize, owed: u16) -> ConditionStep
+#[tactic(auto, unfolding(crate::specs::Items::step_at))]
+pub fn step(cond: &[u8], at: usize, owed: u16) -> Result<(Item, usize), Refusal>
     ensures { result ≡ step_at cond.now at owed }
 {
-    let number = step_no(cond, at, owed);
-    if number != 0 {
-        return ConditionStep::Refused(refusal_of(File::Condition, number, at));
-    }
+    at_fault(File::Condition, at, check_step(cond, at, owed))?;
     let next = at + u16_at(cond, at) as usize;
     let item = item_at(cond, at);
-    ConditionStep::Got(item, next)
+    Ok((item, next))
 }

@@ -30,11 +30,8 @@ fn read_records(run: &[u8], head: Head, index: &mut [u16]) -> Result<Head, Refus
     let mut at: usize = 0;
     loop {
         let (item, next) = step_beside(run, head, at)?;
-        at_fault(
-            File::Run,
-            at,
-            check_record(run, head, &index[..8], at, item),
-        )?;
+        let check = check_record(run, head, &index[..8], at, item);
+        at_fault(File::Run, at, check)?;
         if let Record::End = item {
             check_end(File::Run, run, next)?;
             return Ok(head);

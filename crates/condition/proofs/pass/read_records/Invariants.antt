@@ -1,4 +1,4 @@
--- `read_records` meets its contract. The invariant of its loop: what is left to read from here gives the whole, and the row holds the places of the
+-- The invariant of the loop of `read_records`: what is left to read from here gives the whole, and the row holds the places of the
 -- clauses so far. The measure is what is left of the file.
 use mathlib.Core.Path.{◌≡◌}
 use Prim.Native.Nat.{◌-◌}

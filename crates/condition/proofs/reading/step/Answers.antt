@@ -1,34 +1,18 @@
--- `step` meets its contract: a number that is 0 says that the record is there to its end.
+-- `step` meets its contract: a record that is not refused is there to its end.
 use native.Mathlib.Omega.{arith}
-use mathlib.Core.Path.{refl, sym, ◌∙◌}
-use borrow.Author.Tests.{eq-eqb, ne_eqb}
-use Rattle.condition.specs.Items.{step_at}
-use Rattle.condition.proofs.Laws.{item_opened}
+use mathlib.Core.Path.{sym, ◌∙◌}
+use Rattle.record.proofs.Laws.{not_faulty}
+use Rattle.condition.proofs.Laws.{ItemOpened, item_opened}
+use Rattle.condition.proofs.reading.step.Goals.{In_ok-at_fault}
 use Rattle.condition.proofs.reading.step.Goals as goal
 
-pub returns-then-number-ne0 : goal.returns-then-number-ne0
-unfolding step_at
-returns-then-number-ne0 c =
-    let number = c.step_no-number.ensures in
-    simp (ne_eqb _ 0 (λ z. c.if-number-ne0.true (number ∙ z))) (rw (c.refusal_of.ensures, number) refl)
+right : (c : In_ok-at_fault) → ItemOpened c.args.cond.now c.args.at c.args.owed
+right c = item_opened _ _ _ (sym c.check_step.ensures ∙ not_faulty _ _ _ _ (sym c.at_fault.ensures ∙ c.in_ok-at_fault.was))
 
 pub u16_at-requires : goal.u16_at-requires
-u16_at-requires c =
-    let right = sym c.step_no-number.ensures ∙ c.if-number-ne0.false in
-    let o = item_opened _ _ _ (right) in omega (arith, o.frame.long, o.frame.whole)
+u16_at-requires c = let o = right (goal.at.u16_at-requires c).In_ok-at_fault in omega (arith, o.frame.long, o.frame.whole)
 
 pub overflow_add-next : goal.overflow_add-next
 overflow_add-next c =
-    let right = sym c.step_no-number.ensures ∙ c.if-number-ne0.false in
-    let o = item_opened _ _ _ (right) in record { fits = omega (arith, c.u16_at.ensures, o.frame.long, o.frame.whole) }
-
-pub item_at-item-requires : goal.item_at-item-requires
-item_at-item-requires c =
-    let right = sym c.step_no-number.ensures ∙ c.if-number-ne0.false in
-    record { owed = _; opening = right }
-
-pub returns : goal.returns
-unfolding step_at
-returns c =
-    let right = sym c.step_no-number.ensures ∙ c.if-number-ne0.false in
-    simp (eq-eqb _ 0 right) (rw (c.item_at-item.ensures, c.u16_at.ensures) refl)
+    let o = right (goal.at.overflow_add-next c).In_ok-at_fault in
+    record { fits = omega (arith, c.u16_at.ensures, o.frame.long, o.frame.whole) }

@@ -20,7 +20,7 @@ stepped : (c : In_ok-item) → step_at c.args.run.now c.loop-item.at ≡ Ok (c.i
 stepped c = sym c.step_beside.ensures ∙ c.in_ok-item.was
 
 right : (c : In_ok-at_fault) → check_record c.args.run.now (take 8 c.loop-item.index) c.loop-item.at c.in_ok-item.item ≡ passed
-right c = sym c.check_record.ensures ∙ not_faulty _ _ _ _ (sym c.at_fault.ensures ∙ c.in_ok-at_fault.was)
+right c = sym c.check_record-check.ensures ∙ not_faulty _ _ _ _ (sym c.at_fault.ensures ∙ c.in_ok-at_fault.was)
 
 pub loop-item-init : goal.loop-item-init
 loop-item-init c = so_far_start _ _ c.requires.2
@@ -31,9 +31,9 @@ returns-in_err-item c =
     let step : step_at c.args.run.now c.loop-item.at ≡ Err c.in_err-item.field-0.0 = sym c.step_beside.ensures ∙ c.in_err-item.was in
     rw stopped (passed_refused _ _ _ (here_stopped (run_pass _) c.loop-item.invariant.here _ step))
 
-pub check_record-requires : goal.check_record-requires
-check_record-requires c =
-    let d = record_stepped _ _ _ _ (stepped (goal.at.check_record-requires c).In_ok-item) in
+pub check_record-check-requires : goal.check_record-check-requires
+check_record-check-requires c =
+    let d = record_stepped _ _ _ _ (stepped (goal.at.check_record-check-requires c).In_ok-item) in
     let i = c.loop-item.invariant in
     let head = c.requires.1 in
     record { head = head; few = λ z. rw head (i.along.head z).few; eight = counts_eight c.loop-item.index i.long; opening = d.opening; item = d.item }
@@ -43,7 +43,7 @@ returns-in_err-at_fault c =
     let stopped : c.from_residual-in_err-at_fault.result ≡ Err c.in_err-at_fault.field-0.0 = search (rules) in
     let (why, refused, refusal) = faulty _ _ _ _ (sym c.at_fault.ensures ∙ c.in_err-at_fault.was) in
     let step = stepped (goal.at.returns-in_err-at_fault c).In_ok-item in
-    rw (stopped, refusal) (passed_refused _ _ _ (so_far_judged _ _ _ c.loop-item.invariant _ _ step why (sym c.check_record.ensures ∙ refused)))
+    rw (stopped, refusal) (passed_refused _ _ _ (so_far_judged _ _ _ c.loop-item.invariant _ _ step why (sym c.check_record-check.ensures ∙ refused)))
 
 pub returns-in_err-check_end : goal.returns-in_err-check_end
 returns-in_err-check_end c =
