@@ -1,20 +1,21 @@
 -- What an accepted record of a condition tells.
 use mathlib.Core.Path.{◌≡◌, refl, ap}
 use mathlib.Core.Logic.{◌⊎◌, inl, inr, ⊎_elim}
-use mathlib.Core.Bool.{Bool, true, false, cond, ◌||◌}
+use mathlib.Core.Bool.{Bool, true, false, not, cond, ◌||◌}
 use mathlib.Core.List.{List}
 use Prim.Native.Nat.{ℕ, ◌+◌, ◌≤◌, ◌<◌}
 use native.Mathlib.Omega.{arith}
-use borrow.Author.Tests.{ltb-false, leb-false, eqb-true, eqb-false, not-false}
+use borrow.Author.Tests.{ltb-false, leb-false, eqb-true, eqb-false, ne_eqb, not-false}
 use lib.Dec.{eqb}
 use lib.ListN.{length}
 use Rattle.model.proofs.Numbers.{never, positive}
 use Rattle.model.specs.Clause.{mover}
 use Rattle.record.specs.Bytes.{u16_at}
-use Rattle.std.proofs.Common.{Ok, Err}
-use Rattle.record.specs.Refusal.{Check, passed, at_fault, and_then}
+use Rattle.std.proofs.Common.{Result, Ok, Err}
+use Rattle.record.specs.Refusal.{Check, passed, refuse_if, ◌then◌, at_fault, and_then}
+use Rattle.record.specs.declared.reasons.Reason.{Reason}
 use Rattle.record.specs.declared.reasons.Reason.TheVariants.{WrongLength, WrongKind, Limit, Name, Field, NotLinear}
-use Rattle.record.specs.Record.{length_at, kind_at}
+use Rattle.record.specs.Record.{length_at, kind_at, check_frame}
 use Rattle.record.specs.declared.Head.{Head}
 use Rattle.record.specs.declared.File.TheVariants.{Condition}
 use Rattle.record.proofs.Laws.{then_ok, refuse_if_ok, Framed, framed}
@@ -23,6 +24,9 @@ use Rattle.condition.specs.declared.Test.{Test}
 use Rattle.condition.specs.declared.Item.{Item}
 use Rattle.condition.specs.declared.Item.TheVariants as I
 use Rattle.condition.specs.Clauses.{test_of, local_at, test_at, held_at}
+use Rattle.condition.specs.Kind.{NamesKind}
+use Rattle.condition.specs.declared.kind.Kind.{Kind}
+use Rattle.condition.specs.declared.kind.Kind.TheVariants as K
 use Rattle.condition.specs.Items.{due, length_of, check_step, item_at, step_at}
 use Rattle.condition.specs.Judge.{may_move, check_head, check_local, check_test, check_clause}
 use Rattle.condition.specs.Known.{Whole, LocalKnown, TestKnown, ClauseKnown}
@@ -44,6 +48,24 @@ item_opened s at owed h =
       kind = not-false _ (refuse_if_ok _ WrongKind b.0);
       size = eqb-true _ _ (not-false _ (refuse_if_ok _ WrongLength b.1));
     }
+
+-- a number that no kind has may stand nowhere
+pub kindless : (s : List ℕ) (at owed : ℕ) → check_frame s at ≡ passed → {why : Reason} → NamesKind (kind_at s at) (Err why) → Err why ≡ check_step s at owed
+unfolding check_step due refuse_if
+kindless s at owed right (wrong, a, b, d, e) = rw wrong (simp (right, ne_eqb _ 4 a, ne_eqb _ 16 b, ne_eqb _ 17 d, ne_eqb _ 18 e) (go (eqb at 0) (eqb owed 0) _))
+  where
+    go : (x y : Bool) (rest : Check) → ◌≡◌ {A = Check} (Err WrongKind) (cond (not (cond x false (cond y false false))) (Err WrongKind) passed then rest)
+    go true y rest = refl
+    go false true rest = refl
+    go false false rest = refl
+
+-- a kind that is neither the head's nor the end's hasn't their numbers
+pub other_kind : (n : ℕ) (r : Result Kind Reason) → NamesKind n r → (r ≡ Ok K.Head → ⊥) → (r ≡ Ok K.End → ⊥) → (n ≡ 16 → ⊥) × (n ≡ 4 → ⊥)
+other_kind n (Ok K.Head) e head end = absurd (head refl)
+other_kind n (Ok K.Local) e head end = (λ z. omega arith, λ z. omega arith)
+other_kind n (Ok K.Channel) e head end = (λ z. omega arith, λ z. omega arith)
+other_kind n (Ok K.End) e head end = absurd (end refl)
+other_kind n (Err why) (wrong, a, b, d, e) head end = (b, a)
 
 -- by where it stands: the head first, then the clauses that are owed, then the end
 module _ (s : List ℕ) (at owed : ℕ) (o : check_step s at owed ≡ passed) where

@@ -1,3 +1,4 @@
+pub mod Kind
 pub mod Clauses
 pub mod Items
 pub mod Judge

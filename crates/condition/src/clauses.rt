@@ -3,6 +3,7 @@ ghost use Rattle.std.specs.Prelude.{◌≡◌, ◌+◌, ◌≤◌, length};
 ghost use Rattle.condition.specs.Clauses.{local_at, test_at, held_at};
 ghost use Rattle.condition.specs.Known.{Whole};
 
+use crate::kind::Kind;
 use crate::{Clause, Local, Test};
 use record::bytes::{i32_at, u16_at, u32_at};
 
@@ -44,9 +45,8 @@ pub fn clause_at(cond: &[u8], at: usize) -> Clause
     requires { Whole cond.now at }
     ensures { result ≡ held_at cond.now at }
 {
-    let kind = u16_at(cond, at + 2);
-    match kind {
-        17 => Clause::Local(local_at(cond, at)),
+    match Kind::try_from(u16_at(cond, at + 2)) {
+        Ok(Kind::Local) => Clause::Local(local_at(cond, at)),
         _ => Clause::Channel(test_at(cond, at)),
     }
 }

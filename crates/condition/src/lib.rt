@@ -4,6 +4,7 @@
 
 pub mod clauses;
 mod judge;
+pub mod kind;
 pub mod movers;
 pub mod pass;
 pub mod reading;

@@ -1,10 +1,12 @@
 // The reading step of a condition, over bytes and a place apart.
 ghost use Rattle.std.specs.Prelude.{◌≡◌};
 ghost use Rattle.condition.specs.Items.{due, length_of, check_step, item_at, step_at};
+ghost use Rattle.condition.specs.Kind.{kind_number};
 ghost use Rattle.condition.specs.Inner.{Taken};
 
 use crate::Item;
 use crate::clauses::clause_at;
+use crate::kind::Kind;
 use record::bytes::u16_at;
 use record::reading::check_frame;
 use record::reasons::{Reason, at_fault, refuse_if};
@@ -12,28 +14,25 @@ use record::{File, Refusal};
 
 // Whether a kind may stand at a place: the head, then the clauses that are owed, then the end.
 #[tactic(auto, unfolding(crate::specs::Items::due))]
-fn is_due(at: usize, owed: u16, kind: u16) -> bool
-    ensures { result ≡ due at owed kind }
-{
-    if at == 0 {
-        return kind == 16;
-    }
-    if owed == 0 {
-        return kind == 4;
-    }
-    (kind == 17) | (kind == 18)
-}
-
-// The length that the paper's table gives a kind of a condition; 0 for any other kind.
-fn length_of(kind: u16) -> usize
-    ensures { result ≡ length_of kind }
+fn is_due(at: usize, owed: u16, kind: Kind) -> bool
+    ensures { result ≡ due at owed (kind_number kind) }
 {
     match kind {
-        4 => 4,
-        16 => 6,
-        17 => 14,
-        18 => 12,
-        _ => 0,
+        Kind::Head => at == 0,
+        Kind::Local | Kind::Channel => (at != 0) & (owed != 0),
+        Kind::End => (at != 0) & (owed == 0),
+    }
+}
+
+// The length that the paper's table gives a kind.
+fn length_of(kind: Kind) -> usize
+    ensures { result ≡ length_of (kind_number kind) }
+{
+    match kind {
+        Kind::End => 4,
+        Kind::Head => 6,
+        Kind::Local => 14,
+        Kind::Channel => 12,
     }
 }
 
@@ -44,7 +43,7 @@ fn check_step(cond: &[u8], at: usize, owed: u16) -> Result<(), Reason>
 {
     check_frame(cond, at)?;
     let length = u16_at(cond, at) as usize;
-    let kind = u16_at(cond, at + 2);
+    let kind = Kind::try_from(u16_at(cond, at + 2))?;
     refuse_if(!is_due(at, owed, kind), Reason::WrongKind)?;
     refuse_if(length != length_of(kind), Reason::WrongLength)
 }
@@ -55,10 +54,9 @@ fn item_at(cond: &[u8], at: usize) -> Item
     requires { Taken cond.now at }
     ensures { result ≡ item_at cond.now at }
 {
-    let kind = u16_at(cond, at + 2);
-    match kind {
-        16 => Item::Head(u16_at(cond, at + 4)),
-        4 => Item::End,
+    match Kind::try_from(u16_at(cond, at + 2)) {
+        Ok(Kind::Head) => Item::Head(u16_at(cond, at + 4)),
+        Ok(Kind::End) => Item::End,
         _ => Item::Clause(clause_at(cond, at)),
     }
 }

@@ -1,10 +1,10 @@
 -- What chains of tests, and an opening or a step that is not refused, tell.
 use mathlib.Core.Path.{◌≡◌, refl}
-use mathlib.Core.Bool.{Bool, true, false, cond, ◌||◌}
+use mathlib.Core.Bool.{Bool, true, false, not, cond, ◌||◌}
 use mathlib.Core.List.{List}
 use Prim.Native.Nat.{ℕ, ◌+◌, ◌-◌, ◌≤◌, ◌<◌}
 use native.Mathlib.Omega.{arith}
-use borrow.Author.Tests.{ltb-true, ltb-false, eqb-true, eqb-false, not-false}
+use borrow.Author.Tests.{ltb-true, ltb-false, eqb-true, eqb-false, ne_eqb, not-false}
 use lib.Dec.{eqb, ltb}
 use lib.ListN.{length}
 use Rattle.record.specs.Inner.{states_place}
@@ -14,7 +14,9 @@ use Rattle.model.proofs.Numbers.{never}
 use Rattle.record.specs.Refusal.{Check, passed, refuse_if, ◌then◌, refusal, at_fault}
 use Rattle.record.specs.declared.File.{File}
 use Rattle.record.specs.declared.Refusal.{Refusal}
+use Rattle.record.specs.Kind.{NamesKind}
 use Rattle.record.specs.declared.reasons.Reason.{Reason}
+use Rattle.record.specs.declared.reasons.Reason.TheVariants.{WrongKind, WrongLength}
 use Rattle.record.specs.declared.Record.{Record}
 use Rattle.record.specs.declared.Record.TheVariants as R
 use Rattle.record.specs.Record.{length_at, kind_at, length_of, check_frame, head_of, due, check_opening, check_step, channel_fields_at, state_fields_at, record_at}
@@ -70,6 +72,16 @@ opened s at h =
     let a = then_ok _ _ h in
     let b = then_ok _ _ a.1 in
     record { frame = framed s at a.0; kind = not-false _ (refuse_if_ok _ _ b.0); size = eqb-true _ _ (not-false _ (refuse_if_ok _ _ b.1)) }
+
+-- a number that no kind has may stand nowhere
+pub kindless : (s : List ℕ) (at : ℕ) → check_frame s at ≡ passed → {why : Reason} → NamesKind (kind_at s at) (Err why) → Err why ≡ check_opening s at
+unfolding check_opening due refuse_if
+kindless s at right (wrong, a, b, d, e) = rw wrong (simp (right, ne_eqb _ 1 a, ne_eqb _ 2 b, ne_eqb _ 3 d, ne_eqb _ 4 e) (go (eqb at 0) (ltb at (states_place (head_of s)))))
+  where
+    go : (x y : Bool) → ◌≡◌ {A = Check} (Err WrongKind) (cond (not (cond x false (cond y false false))) (Err WrongKind) passed then refuse_if (not (eqb (length_at s at) (length_of (kind_at s at) (head_of s)))) WrongLength)
+    go true y = refl
+    go false true = refl
+    go false false = refl
 
 -- and so a kind's record is there to its end
 pub opened_whole : (s : List ℕ) (at kind : ℕ) → check_opening s at ≡ passed → kind_at s at ≡ kind → at + length_of kind (head_of s) ≤ length s

@@ -1,5 +1,6 @@
 pub mod Bytes
 pub mod Refusal
+pub mod Kind
 pub mod Layout
 pub mod Record
 pub mod Pass

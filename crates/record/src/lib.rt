@@ -2,6 +2,7 @@
 #![tactic(auto)]
 
 pub mod bytes;
+pub mod kind;
 pub mod layout;
 pub mod reading;
 pub mod reasons;

@@ -3,25 +3,26 @@ ghost use Rattle.std.specs.Prelude.{◌≡◌, ◌+◌, ◌≤◌, length};
 ghost use Rattle.record.specs.Layout.{channel_length};
 ghost use Rattle.record.specs.Inner.{values_place};
 ghost use Rattle.record.specs.Refusal.{passed};
+ghost use Rattle.record.specs.Kind.{kind_number};
 ghost use Rattle.record.specs.Pass.{check_length, check_end};
 ghost use Rattle.record.specs.Record.{length_of, check_frame, head_of, due, check_opening, check_step, channel_fields_at, state_fields_at, record_at, step_at};
 
 use crate::bytes::{left_from, u16_at, u32_at};
+use crate::kind::Kind;
 use crate::layout::{CHANNEL_LENGTH, HEAD_LENGTH, state_length, states_place};
 use crate::reasons::{Reason, at_fault, refuse_if};
 use crate::{ChannelFields, File, Head, Record, Refusal, StateFields};
 
-// The length that the paper's table gives a kind of a run; 0 for any other kind.
+// The length that the paper's table gives a kind.
 #[tactic(auto, unfolding(crate::specs::Record::length_of))]
-fn length_of(kind: u16, head: Head) -> usize
-    ensures { result ≡ length_of kind head }
+fn length_of(kind: Kind, head: Head) -> usize
+    ensures { result ≡ length_of (kind_number kind) head }
 {
     match kind {
-        1 => HEAD_LENGTH,
-        2 => CHANNEL_LENGTH,
-        3 => state_length(head),
-        4 => 4,
-        _ => 0,
+        Kind::Head => HEAD_LENGTH,
+        Kind::Channel => CHANNEL_LENGTH,
+        Kind::State => state_length(head),
+        Kind::End => 4,
     }
 }
 
@@ -58,16 +59,14 @@ pub fn head_of(run: &[u8]) -> Head
 
 // Whether a kind may stand at a place: the head, then the channels, then states and the end.
 #[tactic(auto, unfolding(crate::specs::Record::due))]
-fn is_due(head: Head, at: usize, kind: u16) -> bool
-    ensures { result ≡ due head at kind }
+fn is_due(head: Head, at: usize, kind: Kind) -> bool
+    ensures { result ≡ due head at (kind_number kind) }
 {
-    if at == 0 {
-        return kind == 1;
+    match kind {
+        Kind::Head => at == 0,
+        Kind::Channel => (at != 0) & (at < states_place(head)),
+        Kind::State | Kind::End => (at != 0) & (at >= states_place(head)),
     }
-    if at < states_place(head) {
-        return kind == 2;
-    }
-    (kind == 3) | (kind == 4)
 }
 
 // 2, 3, 2, 4, 3: the frame, the kind, the kind's length.
@@ -78,7 +77,7 @@ fn check_opening(run: &[u8], head: Head, at: usize) -> Result<(), Reason>
 {
     check_frame(run, at)?;
     let length = u16_at(run, at) as usize;
-    let kind = u16_at(run, at + 2);
+    let kind = Kind::try_from(u16_at(run, at + 2))?;
     refuse_if(!is_due(head, at, kind), Reason::WrongKind)?;
     refuse_if(length != length_of(kind, head), Reason::WrongLength)
 }
@@ -132,12 +131,11 @@ fn record_at(run: &[u8], head: Head, at: usize) -> Record
     requires { (head ≡ head_of run.now) × (check_opening run.now at ≡ passed) }
     ensures { result ≡ record_at run.now at }
 {
-    let kind = u16_at(run, at + 2);
-    match kind {
-        1 => Record::Head(head),
-        2 => Record::Channel(channel_fields_at(run, at)),
-        3 => Record::State(state_fields_at(run, at)),
-        _ => Record::End,
+    match Kind::try_from(u16_at(run, at + 2)) {
+        Ok(Kind::Head) => Record::Head(head),
+        Ok(Kind::Channel) => Record::Channel(channel_fields_at(run, at)),
+        Ok(Kind::State) => Record::State(state_fields_at(run, at)),
+        Ok(Kind::End) | Err(_) => Record::End,
     }
 }
 

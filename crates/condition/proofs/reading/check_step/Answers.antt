@@ -1,7 +1,10 @@
--- `check_step` meets its contract: a right frame has the bytes that the rest of the chain reads.
+-- `check_step` meets its contract: a right frame has the bytes that the rest of the chain reads, and a number that no kind has may stand nowhere.
 use native.Mathlib.Omega.{arith}
-use mathlib.Core.Path.{sym, ◌∙◌}
+use mathlib.Core.Path.{◌≡◌, sym, ◌∙◌}
+use Rattle.std.proofs.Common.{rules, Err}
 use Rattle.record.proofs.Laws.{Framed, framed}
+use Rattle.condition.specs.Kind.{NamesKind}
+use Rattle.condition.proofs.Laws.{kindless}
 use Rattle.condition.proofs.reading.check_step.Goals.{In_ok-check_frame}
 use Rattle.condition.proofs.reading.check_step.Goals as goal
 
@@ -14,5 +17,11 @@ u16_at-length-requires c = let f = frame (goal.at.u16_at-length-requires c).In_o
 pub overflow_add-at : goal.overflow_add-at
 overflow_add-at c = let f = frame (goal.at.overflow_add-at c).In_ok-check_frame in record { fits = omega (arith, f.long, f.whole) }
 
-pub u16_at-kind-requires : goal.u16_at-kind-requires
-u16_at-kind-requires c = let f = frame (goal.at.u16_at-kind-requires c).In_ok-check_frame in omega (arith, f.long, f.whole)
+pub u16_at-requires : goal.u16_at-requires
+u16_at-requires c = let f = frame (goal.at.u16_at-requires c).In_ok-check_frame in omega (arith, f.long, f.whole)
+
+pub returns-in_err-kind : goal.returns-in_err-kind
+returns-in_err-kind c =
+    let stopped : c.from_residual-in_err-kind.result ≡ Err c.in_err-kind.field-0.0 = search (rules) in
+    let none : NamesKind c.u16_at.result (Err c.in_err-kind.field-0.0) = search (rules) in
+    stopped ∙ kindless _ _ _ (sym c.check_frame.ensures ∙ c.in_ok-check_frame.was) (rw c.u16_at.ensures at none)
