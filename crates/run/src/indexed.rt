@@ -12,6 +12,7 @@ use model::{Channel, Event};
 use states::held::channel_at;
 use std::marker::Model;
 
+#[derive(Drop)]
 pub struct Indexed<'a> {
     pub run: &'a [u8],
     pub index: &'a [u16],
