@@ -28,7 +28,7 @@ pub loop-i-preserved : goal.loop-i-preserved
 loop-i-preserved c =
     let l = c.loop-i in
     let a = c.args in
-    (omega (arith, c.loop-i-test.true), kind_holds_next a.run.now a.cond.now a.clauses.now a.cut.now l.invariant.1 c.in-Nobody.is c.channel_clause-named.ensures)
+    (omega (arith, c.loop-i-test.true), kind_holds_next a.run.now a.cond.now a.clauses.now a.cut.now l.invariant.1 c.in-None.is c.channel_clause-named.ensures)
 
 pub returns : goal.returns
 returns c = all_of_kind c.requires.0 _ _ (λ j h. c.loop-i.invariant.1 j (omega (arith, c.loop-i-test.false)))

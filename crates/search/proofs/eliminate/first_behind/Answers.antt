@@ -16,4 +16,4 @@ too_low-requires c = let r = c.requires in (r.0.index.listed.long, in_table r.0 
 pub returns : goal.returns
 returns c =
     let r = c.requires in
-    moved_clocks r.0 _ r.1 c.in-Nobody.is c.first_local-local.ensures c.too_low.ensures
+    moved_clocks r.0 _ r.1 c.in-None.is c.first_local-local.ensures c.too_low.ensures

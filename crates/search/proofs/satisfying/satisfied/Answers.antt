@@ -61,5 +61,5 @@ pub returns : goal.returns
 returns c =
     let r = c.requires in
     let told = c.consistent.ensures _ r.0.index.clocks r.1 in
-    let every = both_kinds r.0 _ c.in-Nobody.is c.first_local-local.ensures c.in-Nobody-channel.is c.first_channel-channel.ensures in
+    let every = both_kinds r.0 _ c.in-None.is c.first_local-local.ensures c.in-None-channel.is c.first_channel-channel.ensures in
     (λ e. record { is_cut = r.1; consistent = told.0 (c.if-not-consistent.false); clauses = every }, λ w. refl)
