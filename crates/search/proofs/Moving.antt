@@ -10,7 +10,7 @@ use native.Mathlib.Omega.{arith}
 use lib.Dec.{T}
 use lib.ListN.{length, get_or, set, replicate, length-set}
 use lib.Seq.{get_or-set_same, get_or-set_other}
-use Rattle.model.proofs.Numbers.{never, below_next}
+use Rattle.model.proofs.Numbers.{never}
 use Rattle.model.specs.Run.{Run, processes, count, IsState}
 use Rattle.model.specs.Cut.{at, IsCut}
 use Rattle.model.specs.Clause.{Test, Clause, holds, Satisfies}
@@ -25,7 +25,7 @@ use Rattle.run.proofs.Listed.{ok, processes_are, listed_count}
 use Rattle.condition.specs.Clauses.{clauses_of}
 use Rattle.condition.specs.Known.{clause_at}
 use Rattle.condition.proofs.Accepted.{known_linear}
-use Rattle.std.specs.Prelude.{Option, Some, None}
+use Rattle.std.specs.Prelude.{Option, Some, None, MatchOption}
 use Rattle.cut.specs.Clocks.{too_low, InTable}
 use Rattle.cut.proofs.Low.{too_low_found, nobody_by_clock, cut_in_table}
 use Rattle.search.specs.declared.Outcome.TheVariants as A
@@ -77,14 +77,11 @@ tried_tested : {r : Run} {cut : List ℕ} {x : Clause} {locals : Bool} {b : Opti
 tried_tested e (tested d t) = t
 tried_tested e (passed d o) = never (cc)
 
--- of the first places, the clauses of a kind hold
-abbrev pub KindHolds : List ℕ → List ℕ → List ℕ → List ℕ → Bool → ℕ → Type 0
-KindHolds s c qs cut locals i = (j : ℕ) → j < i → is_local (clause_at c (get_or qs j 0)) ≡ locals → T (holds (run_in s) cut (clause_at c (get_or qs j 0)))
-
-pub kind_holds_next : (s c qs cut : List ℕ) {locals : Bool} {i : ℕ} {b : Option ℕ} → KindHolds s c qs cut locals i → b ≡ None
-    → Tried (run_in s) cut (clause_at c (get_or qs i 0)) locals b → KindHolds s c qs cut locals (i + 1)
-kind_holds_next s c qs cut {locals} w e t j h =
-    below_next (λ k. is_local (clause_at c (get_or qs k 0)) ≡ locals → T (holds (run_in s) cut (clause_at c (get_or qs k 0)))) h (tried_holds e t) (λ g. w j g)
+-- a search over the places for a clause of a kind that names somebody
+abbrev pub FirstTried : List ℕ → List ℕ → List ℕ → List ℕ → Bool → Option ℕ → Type 0
+FirstTried s c qs cut locals b = MatchOption b
+    ((k : ℕ) → k < length qs → Tried (run_in s) cut (clause_at c (get_or qs k 0)) locals None)
+    (λ p. (k : ℕ) × (k < length qs) × Tried (run_in s) cut (clause_at c (get_or qs k 0)) locals (Some p))
 
 module _ {s c ix qs : List ℕ} (g : Given s c ix qs) where
   abbrev r : Run
@@ -103,13 +100,10 @@ module _ {s c ix qs : List ℕ} (g : Given s c ix qs) where
 
   -- ---- the clauses of one kind
 
-  pub all_of_kind : (cut : List ℕ) (locals : Bool) → KindHolds s c qs cut locals (length qs) → KindTested r cs cut locals None
+  pub first_tried : (cut : List ℕ) {locals : Bool} {b : Option ℕ} → FirstTried s c qs cut locals b → KindTested r cs cut locals b
   unfolding clauses_of
-  all_of_kind cut locals w = all (map_each (clause_at c) (λ x. is_local x ≡ locals → T (holds r cut x)) qs 0 w)
-
-  pub one_of_kind : (cut : List ℕ) {locals : Bool} (j : ℕ) → j < length qs → {b : Option ℕ} {p : ℕ} → b ≡ Some p → Tried r cut (clause_at c (get_or qs j 0)) locals b → KindTested r cs cut locals b
-  one_of_kind cut {locals} j h {p = p} e t =
-      subst (KindTested r cs cut locals) (sym e) (one (clause_at c (get_or qs j 0)) (clause_in j h) p (subst (Tested r cut (clause_at c (get_or qs j 0))) e (tried_tested e t)))
+  first_tried cut {locals} {b = None} w = all (map_each (clause_at c) (λ x. is_local x ≡ locals → T (holds r cut x)) qs 0 (λ j h. tried_holds refl (w j h)))
+  first_tried cut {locals} {b = Some p} (j, h, t) = one (clause_at c (get_or qs j 0)) (clause_in j h) p (tried_tested refl t)
 
   pub both_kinds : (cut : List ℕ) {a b : Option ℕ} → a ≡ None → KindTested r cs cut true a → b ≡ None → KindTested r cs cut false b
       → (x : Clause) → Memᴰ x cs → T (holds r cut x)
@@ -168,6 +162,16 @@ module _ {s c ix qs : List ℕ} (g : Given s c ix qs) where
     pub moved_before : {a b : Option ℕ} {p : ℕ} → a ≡ Some p → Moved r cs ix cut is_local a → b ≡ Some p → Moved r cs ix cut every b
     moved_before d (nobody v k) e = never (cc)
     moved_before {p = p} d (process q h m) e = let same : q ≡ p = cc in rw e (subst (λ p. Moved r cs ix cut every (Some p)) same (process q h m))
+
+    -- whom the local clauses name, or else the clocks
+    pub moved_first : {a b : Option ℕ} → KindTested r cs cut true a → MatchOption a (b ≡ too_low (clock_in ix) cut) (λ p. b ≡ Some p) → Moved r cs ix cut is_local b
+    moved_first {a = None} t w = moved_clocks refl t w
+    moved_first {a = Some p} t w = rw w (moved_clause refl t)
+
+    -- or else the channel clauses
+    pub moved_last : {a b : Option ℕ} → Moved r cs ix cut is_local a → MatchOption a (KindTested r cs cut false b) (λ p. b ≡ Some p) → Moved r cs ix cut every b
+    moved_last {a = None} t w = moved_channels refl t w refl
+    moved_last {a = Some p} t w = moved_before refl t w
 
     pub in_table : InTable cut
     in_table = cut_in_table g.index cut is
