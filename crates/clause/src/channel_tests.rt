@@ -42,14 +42,18 @@ fn empty_passes(test: u16) -> bool
 }
 
 // Tests 6 and 7.
-fn lowest_passes(test: u16, operand: u32, load: Load) -> bool
+fn lowest_passes(test: u16, operand: u32, load: Option<Load>) -> bool
     requires { (6 ≤ test) × (test ≤ 7) }
     ensures { (ms : List Message) → LoadOf ms load → result ≡ passes (test_of test operand) ms }
 {
+    let Some(load) = load else {
+        return empty_passes(test);
+    };
     let x = signed_of(operand);
-    match load {
-        Load::Empty => empty_passes(test),
-        Load::Messages(_, lowest) => if test == 6 { x <= lowest } else { lowest <= x },
+    if test == 6 {
+        x <= load.lowest
+    } else {
+        load.lowest <= x
     }
 }
 

@@ -3,14 +3,12 @@ ghost use Rattle.std.specs.Prelude.{◌≡◌};
 ghost use Rattle.model.specs.Clause as M;
 ghost use Rattle.condition.specs.Clauses.{comparison_of};
 
-// Equal is at most both ways, as the definition has it.
 pub(crate) fn compares(comparison: u16, value: i32, x: i32) -> bool
     ensures { result ≡ M.compares (comparison_of comparison) value x }
 {
-    let same = (value <= x) & (x <= value);
     match comparison {
-        1 => same,
-        2 => !same,
+        1 => value == x,
+        2 => value != x,
         3 => value <= x,
         _ => x <= value,
     }

@@ -1,3 +1,4 @@
+pub mod Each
 pub mod First
 pub mod Low
 pub mod Writing

@@ -17,6 +17,7 @@ use Rattle.model.specs.Run.{Run}
 use Rattle.model.specs.LowestStamp.{LowestStamp}
 use Rattle.model.proofs.LowestStamp.{lowest_one, lowest_exactly}
 use Rattle.states.proofs.Tabulate.{tabulate-length, tabulate-at}
+use Rattle.std.specs.Prelude.{Option}
 use Rattle.transit.specs.declared.Load.{Load}
 use Rattle.transit.specs.Load.{LoadOf}
 use Rattle.transit.specs.Load.LoadOf.{empty, messages}
@@ -95,10 +96,10 @@ module _ (r : Run) (cut : List ℕ) where
           past = λ c h. other c (λ e. absurd (omega arith)) ∙ v.past c (omega arith);
         }
 
-    pub lowest_more : {load : Load} → LoadOf (in_transit r cut k) load → k < length stamps → WroteLowest r cut (k + 1) stamps (with_lowest load k stamps')
+    pub lowest_more : {load : Option Load} → LoadOf (in_transit r cut k) load → k < length stamps → WroteLowest r cut (k + 1) stamps (with_lowest load k stamps')
     unfolding with_lowest
     lowest_more (empty e) room = kept e
-    lowest_more (messages w) room = entered w room
+    lowest_more (messages n w) room = entered w room
 
 -- ---- the test for room
 

@@ -1,11 +1,10 @@
 -- What listing all channels is given, and a row of stamps with that of one channel entered: words of inner contracts.
-use Rattle.std.specs.Prelude.{◌≡◌, List, ℕ, ℤ, set}
+use Rattle.std.specs.Prelude.{◌≡◌, List, Option, Some, None, ℕ, ℤ, set}
 use Rattle.model.specs.Cut.{IsCut}
 use Rattle.record.specs.Record.{head_of}
 use Rattle.run.specs.Said.{run_in}
 use Rattle.run.specs.Index.{IndexHolds}
 use Rattle.transit.specs.declared.Load.{Load}
-use Rattle.transit.specs.declared.Load.TheVariants.{Empty, Messages}
 use Rattle.cut.specs.Listing.{Room}
 
 -- an accepted run with its index, one of its cuts, all its channels, and a place for each of them in both rows
@@ -15,6 +14,6 @@ pub record Listable (s ix cut : List ℕ) (channels : ℕ) (counts : List ℕ) (
   pub all : channels ≡ (head_of s).channels
   pub room : Room channels counts stamps
 
-unfoldable pub with_lowest : Load → ℕ → List ℤ → List ℤ
-with_lowest Empty i stamps = stamps
-with_lowest (Messages n x) i stamps = set stamps i x
+unfoldable pub with_lowest : Option Load → ℕ → List ℤ → List ℤ
+with_lowest None i stamps = stamps
+with_lowest (Some load) i stamps = set stamps i load.lowest

@@ -3,40 +3,29 @@ ghost use Rattle.std.specs.Prelude.{◌≡◌, ◌<◌, length};
 ghost use Rattle.run.specs.Index.{clock_in, index_size};
 ghost use Rattle.cut.specs.Clocks.{InTable, behind_of, too_low, ConsistentIs};
 
-use crate::HasToMove;
 use run::index::clock_of;
 
 // The first process that is behind j's clock.
-fn behind(index: &[u16], cut: &[u16], j: usize) -> HasToMove
+fn behind(index: &[u16], cut: &[u16], j: usize) -> Option<usize>
     requires { (length index.now ≡ index_size) × InTable cut.now × (j < length cut.now) }
     ensures { result ≡ behind_of (clock_in index.now) cut.now j }
 {
     let k = cut[j];
     let clock = clock_of(index, j as u16, k);
-    let mut i = 0;
-    while i < cut.len() {
-        if (i != j) & (cut[i] <= clock[i]) {
-            return HasToMove::Process(i);
-        }
-        i += 1;
-    }
-    HasToMove::Nobody
+    (0..cut.len()).find(|&i| (i != j) & (cut[i] <= clock[i]))
 }
 
 // Of the processes in order, the first whose clock somebody is behind: who is.
-pub fn too_low(index: &[u16], cut: &[u16]) -> HasToMove
+pub fn too_low(index: &[u16], cut: &[u16]) -> Option<usize>
     requires { (length index.now ≡ index_size) × InTable cut.now }
     ensures { result ≡ too_low (clock_in index.now) cut.now }
 {
-    let mut j = 0;
-    while j < cut.len() {
-        let found = behind(index, cut, j);
-        let HasToMove::Nobody = found else {
-            return found;
-        };
-        j += 1;
+    for j in 0..cut.len() {
+        if let Some(i) = behind(index, cut, j) {
+            return Some(i);
+        }
     }
-    HasToMove::Nobody
+    None
 }
 
 // No chosen state is before another, in a run whose clocks the index holds.
@@ -44,9 +33,5 @@ pub fn consistent(index: &[u16], cut: &[u16]) -> bool
     requires { (length index.now ≡ index_size) × InTable cut.now }
     ensures { ConsistentIs index.now cut.now result }
 {
-    let found = too_low(index, cut);
-    let HasToMove::Nobody = found else {
-        return false;
-    };
-    true
+    too_low(index, cut).is_none()
 }

@@ -4,10 +4,3 @@
 pub mod choice;
 pub mod clocks;
 pub mod listing;
-
-// Who has to move: whom the clocks find behind, or whom a false clause names.
-#[derive(Clone, Copy)]
-pub enum HasToMove {
-    Nobody,
-    Process(usize),
-}

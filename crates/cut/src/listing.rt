@@ -11,21 +11,16 @@ pub fn write(row: &[u16], lent: &mut [u16])
     requires { length row.now ≤ length lent.old }
     ensures { Wrote row.now lent.old lent.new }
 {
-    let mut i = 0;
-    while i < row.len() {
-        lent[i] = row[i];
-        i += 1;
-    }
+    lent[..row.len()].copy_from_slice(row);
 }
 
 // The place of a stamp is left as it was where there is none.
-fn enter(load: Load, i: usize, stamps: &mut [i32])
+fn enter(load: Option<Load>, i: usize, stamps: &mut [i32])
     requires { i < length stamps.old }
     ensures { stamps.new ≡ with_lowest load i stamps.old }
 {
-    match load {
-        Load::Empty => {}
-        Load::Messages(_, lowest) => stamps[i] = lowest,
+    if let Some(load) = load {
+        stamps[i] = load.lowest;
     }
 }
 
@@ -42,12 +37,10 @@ pub fn list_channels(
     ensures { Wrote (on_each (run_in run.now) cut.now) counts.old counts.new
         × WroteLowest (run_in run.now) cut.now channels stamps.old stamps.new }
 {
-    let mut channel: u16 = 0;
-    while channel < channels {
+    for channel in 0..channels {
         let i = channel as usize;
         let load = load_on(run, index, cut, channel);
         counts[i] = count_in(load) as u16;
         enter(load, i, stamps);
-        channel += 1;
     }
 }

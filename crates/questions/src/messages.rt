@@ -14,12 +14,12 @@ use run::index::INDEX_SIZE;
 use transit::Load;
 use transit::scan::load_on;
 
-fn as_count(load: Load) -> Count
+fn as_count(load: Option<Load>) -> Count
     ensures { result ≡ as_count load }
 {
     match load {
-        Load::Empty => Count::Empty,
-        Load::Messages(count, lowest) => Count::Messages(count, lowest),
+        None => Count::Empty,
+        Some(load) => Count::Messages(load.count, load.lowest),
     }
 }
 

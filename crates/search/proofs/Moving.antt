@@ -10,7 +10,7 @@ use native.Mathlib.Omega.{arith}
 use lib.Dec.{T}
 use lib.ListN.{length, get_or, set, replicate, length-set}
 use lib.Seq.{get_or-set_same, get_or-set_other}
-use Rattle.model.proofs.Numbers.{never, below_next}
+use Rattle.model.proofs.Numbers.{never}
 use Rattle.model.specs.Run.{Run, processes, count, IsState}
 use Rattle.model.specs.Cut.{at, IsCut}
 use Rattle.model.specs.Clause.{Test, Clause, holds, Satisfies}
@@ -25,8 +25,7 @@ use Rattle.run.proofs.Listed.{ok, processes_are, listed_count}
 use Rattle.condition.specs.Clauses.{clauses_of}
 use Rattle.condition.specs.Known.{clause_at}
 use Rattle.condition.proofs.Accepted.{known_linear}
-use Rattle.cut.specs.declared.HasToMove.{HasToMove}
-use Rattle.cut.specs.declared.HasToMove.TheVariants.{Nobody, Process}
+use Rattle.std.specs.Prelude.{Option, Some, None, MatchOption}
 use Rattle.cut.specs.Clocks.{too_low, InTable}
 use Rattle.cut.proofs.Low.{too_low_found, nobody_by_clock, cut_in_table}
 use Rattle.search.specs.declared.Outcome.TheVariants as A
@@ -52,16 +51,16 @@ map_each f P (x ∷ l) d w k (Memᴰ.tail m) = map_each f P l d (λ j h. w (suc 
 -- ---- what the test of one clause tells
 
 -- a false channel clause names somebody
-end_somebody : {r : Run} {c : ℕ} {t : Test} {n : ℕ} {b : HasToMove} → EndNamed r c t n b → b ≡ Nobody → ⊥
+end_somebody : {r : Run} {c : ℕ} {t : Test} {n : ℕ} {b : Option ℕ} → EndNamed r c t n b → b ≡ None → ⊥
 end_somebody (EndNamed.sender h m) e = never (cc)
 end_somebody (EndNamed.receiver h m) e = never (cc)
 
-tested_holds : {r : Run} {cut : List ℕ} {x : Clause} {b : HasToMove} → b ≡ Nobody → Tested r cut x b → T (holds r cut x)
+tested_holds : {r : Run} {cut : List ℕ} {x : Clause} {b : Option ℕ} → b ≡ None → Tested r cut x b → T (holds r cut x)
 tested_holds e (Tested.holding t) = t
 tested_holds e (Tested.local_false i v o x a h n) = never (cc)
 tested_holds e (Tested.channel_false c t b a n w) = absurd (end_somebody w e)
 
-tested_fails : {r : Run} {cut : List ℕ} {x : Clause} {b : HasToMove} {p : ℕ} → b ≡ Process p → Tested r cut x b → ¬ T (holds r cut x)
+tested_fails : {r : Run} {cut : List ℕ} {x : Clause} {b : Option ℕ} {p : ℕ} → b ≡ Some p → Tested r cut x b → ¬ T (holds r cut x)
 tested_fails e (Tested.holding t) = never (cc)
 tested_fails e (Tested.local_false i v o x a h n) = n
 tested_fails e (Tested.channel_false c t b a n w) = n
@@ -70,22 +69,19 @@ other_kind : (t : Bool) → t ≡ not t → ⊥
 other_kind true e = never (cc)
 other_kind false e = never (cc)
 
-tried_holds : {r : Run} {cut : List ℕ} {x : Clause} {locals : Bool} {b : HasToMove} → b ≡ Nobody → Tried r cut x locals b → is_local x ≡ locals → T (holds r cut x)
+tried_holds : {r : Run} {cut : List ℕ} {x : Clause} {locals : Bool} {b : Option ℕ} → b ≡ None → Tried r cut x locals b → is_local x ≡ locals → T (holds r cut x)
 tried_holds e (tested d t) h = tested_holds e t
 tried_holds {locals = locals} e (passed d o) h = absurd (other_kind locals (sym h ∙ d))
 
-tried_tested : {r : Run} {cut : List ℕ} {x : Clause} {locals : Bool} {b : HasToMove} {p : ℕ} → b ≡ Process p → Tried r cut x locals b → Tested r cut x b
+tried_tested : {r : Run} {cut : List ℕ} {x : Clause} {locals : Bool} {b : Option ℕ} {p : ℕ} → b ≡ Some p → Tried r cut x locals b → Tested r cut x b
 tried_tested e (tested d t) = t
 tried_tested e (passed d o) = never (cc)
 
--- of the first places, the clauses of a kind hold
-abbrev pub KindHolds : List ℕ → List ℕ → List ℕ → List ℕ → Bool → ℕ → Type 0
-KindHolds s c qs cut locals i = (j : ℕ) → j < i → is_local (clause_at c (get_or qs j 0)) ≡ locals → T (holds (run_in s) cut (clause_at c (get_or qs j 0)))
-
-pub kind_holds_next : (s c qs cut : List ℕ) {locals : Bool} {i : ℕ} {b : HasToMove} → KindHolds s c qs cut locals i → b ≡ Nobody
-    → Tried (run_in s) cut (clause_at c (get_or qs i 0)) locals b → KindHolds s c qs cut locals (i + 1)
-kind_holds_next s c qs cut {locals} w e t j h =
-    below_next (λ k. is_local (clause_at c (get_or qs k 0)) ≡ locals → T (holds (run_in s) cut (clause_at c (get_or qs k 0)))) h (tried_holds e t) (λ g. w j g)
+-- a search over the places for a clause of a kind that names somebody
+abbrev pub FirstTried : List ℕ → List ℕ → List ℕ → List ℕ → Bool → Option ℕ → Type 0
+FirstTried s c qs cut locals b = MatchOption b
+    ((k : ℕ) → k < length qs → Tried (run_in s) cut (clause_at c (get_or qs k 0)) locals None)
+    (λ p. (k : ℕ) × (k < length qs) × Tried (run_in s) cut (clause_at c (get_or qs k 0)) locals (Some p))
 
 module _ {s c ix qs : List ℕ} (g : Given s c ix qs) where
   abbrev r : Run
@@ -104,15 +100,12 @@ module _ {s c ix qs : List ℕ} (g : Given s c ix qs) where
 
   -- ---- the clauses of one kind
 
-  pub all_of_kind : (cut : List ℕ) (locals : Bool) → KindHolds s c qs cut locals (length qs) → KindTested r cs cut locals Nobody
+  pub first_tried : (cut : List ℕ) {locals : Bool} {b : Option ℕ} → FirstTried s c qs cut locals b → KindTested r cs cut locals b
   unfolding clauses_of
-  all_of_kind cut locals w = all (map_each (clause_at c) (λ x. is_local x ≡ locals → T (holds r cut x)) qs 0 w)
+  first_tried cut {locals} {b = None} w = all (map_each (clause_at c) (λ x. is_local x ≡ locals → T (holds r cut x)) qs 0 (λ j h. tried_holds refl (w j h)))
+  first_tried cut {locals} {b = Some p} (j, h, t) = one (clause_at c (get_or qs j 0)) (clause_in j h) p (tried_tested refl t)
 
-  pub one_of_kind : (cut : List ℕ) {locals : Bool} (j : ℕ) → j < length qs → {b : HasToMove} {p : ℕ} → b ≡ Process p → Tried r cut (clause_at c (get_or qs j 0)) locals b → KindTested r cs cut locals b
-  one_of_kind cut {locals} j h {p = p} e t =
-      subst (KindTested r cs cut locals) (sym e) (one (clause_at c (get_or qs j 0)) (clause_in j h) p (subst (Tested r cut (clause_at c (get_or qs j 0))) e (tried_tested e t)))
-
-  pub both_kinds : (cut : List ℕ) {a b : HasToMove} → a ≡ Nobody → KindTested r cs cut true a → b ≡ Nobody → KindTested r cs cut false b
+  pub both_kinds : (cut : List ℕ) {a b : Option ℕ} → a ≡ None → KindTested r cs cut true a → b ≡ None → KindTested r cs cut false b
       → (x : Clause) → Memᴰ x cs → T (holds r cut x)
   both_kinds cut d (all v) e (all w) x m = go (is_local x) refl
     where
@@ -123,7 +116,7 @@ module _ {s c ix qs : List ℕ} (g : Given s c ix qs) where
   both_kinds cut d (one y n p t) e w x m = never (cc)
 
   -- where one is false the cut doesn't satisfy
-  pub kind_fails : (cut : List ℕ) {locals : Bool} {b : HasToMove} {p : ℕ} → b ≡ Process p → KindTested r cs cut locals b → ¬ Satisfies r cs cut
+  pub kind_fails : (cut : List ℕ) {locals : Bool} {b : Option ℕ} {p : ℕ} → b ≡ Some p → KindTested r cs cut locals b → ¬ Satisfies r cs cut
   kind_fails cut e (all w) y = never (cc)
   kind_fails cut e (one x m p t) y = tested_fails refl t (y.clauses x m)
 
@@ -141,22 +134,22 @@ module _ {s c ix qs : List ℕ} (g : Given s c ix qs) where
     low = here.lowest
 
     -- a false clause
-    pub moved_clause : {locals : Bool} {asked : Clause → Bool} {b : HasToMove} {p : ℕ} → b ≡ Process p → KindTested r cs cut locals b → Moved r cs ix cut asked b
+    pub moved_clause : {locals : Bool} {asked : Clause → Bool} {b : Option ℕ} {p : ℕ} → b ≡ Some p → KindTested r cs cut locals b → Moved r cs ix cut asked b
     moved_clause e (all w) = never (cc)
-    moved_clause e (one x m p t) = let (a, w) = tested_moves r cs cut x linear low m (Process p) p refl t in process p a w
+    moved_clause e (one x m p t) = let (a, w) = tested_moves r cs cut x linear low m (Some p) p refl t in process p a w
 
     -- where the local clauses hold, the clocks
-    pub moved_clocks : {a b : HasToMove} → a ≡ Nobody → KindTested r cs cut true a → b ≡ too_low (clock_in ix) cut → Moved r cs ix cut is_local b
+    pub moved_clocks : {a b : Option ℕ} → a ≡ None → KindTested r cs cut true a → b ≡ too_low (clock_in ix) cut → Moved r cs ix cut is_local b
     unfolding Under Moves
-    moved_clocks {b = Nobody} d (all w) e = nobody w (nobody_by_clock (clock_in ix) cut r g.index.clocks is (sym e))
-    moved_clocks {b = Process p} d (all w) e =
+    moved_clocks {b = None} d (all w) e = nobody w (nobody_by_clock (clock_in ix) cut r g.index.clocks is (sym e))
+    moved_clocks {b = Some p} d (all w) e =
         let (j, l) = too_low_found (clock_in ix) cut p (sym e) in
         process p (omega (arith, l.process, is.size))
         (clock_moves r cs linear cut low (clock_in ix) g.index.clocks is p j (omega (arith, l.process, is.size)) (omega (arith, l.other, is.size)) l.apart l.low)
     moved_clocks d (one x m p t) e = never (cc)
 
     -- and where those name nobody either, the channel clauses
-    pub moved_channels : {a b d : HasToMove} → a ≡ Nobody → Moved r cs ix cut is_local a → KindTested r cs cut false b → d ≡ b → Moved r cs ix cut every d
+    pub moved_channels : {a b d : Option ℕ} → a ≡ None → Moved r cs ix cut is_local a → KindTested r cs cut false b → d ≡ b → Moved r cs ix cut every d
     moved_channels e (nobody v k) (all w) same = rw same (nobody (λ x m t. go x m (is_local x) refl) k)
       where
         go : (x : Clause) → Memᴰ x cs → (t : Bool) → is_local x ≡ t → T (holds r cut x)
@@ -166,14 +159,24 @@ module _ {s c ix qs : List ℕ} (g : Given s c ix qs) where
     moved_channels e (process p h m) w same = never (cc)
 
     -- somebody is named before the channel clauses are asked
-    pub moved_before : {a b : HasToMove} {p : ℕ} → a ≡ Process p → Moved r cs ix cut is_local a → b ≡ Process p → Moved r cs ix cut every b
+    pub moved_before : {a b : Option ℕ} {p : ℕ} → a ≡ Some p → Moved r cs ix cut is_local a → b ≡ Some p → Moved r cs ix cut every b
     moved_before d (nobody v k) e = never (cc)
-    moved_before {p = p} d (process q h m) e = let same : q ≡ p = cc in rw e (subst (λ p. Moved r cs ix cut every (Process p)) same (process q h m))
+    moved_before {p = p} d (process q h m) e = let same : q ≡ p = cc in rw e (subst (λ p. Moved r cs ix cut every (Some p)) same (process q h m))
+
+    -- whom the local clauses name, or else the clocks
+    pub moved_first : {a b : Option ℕ} → KindTested r cs cut true a → MatchOption a (b ≡ too_low (clock_in ix) cut) (λ p. b ≡ Some p) → Moved r cs ix cut is_local b
+    moved_first {a = None} t w = moved_clocks refl t w
+    moved_first {a = Some p} t w = rw w (moved_clause refl t)
+
+    -- or else the channel clauses
+    pub moved_last : {a b : Option ℕ} → Moved r cs ix cut is_local a → MatchOption a (KindTested r cs cut false b) (λ p. b ≡ Some p) → Moved r cs ix cut every b
+    moved_last {a = None} t w = moved_channels refl t w refl
+    moved_last {a = Some p} t w = moved_before refl t w
 
     pub in_table : InTable cut
     in_table = cut_in_table g.index cut is
 
-    pub search_found : {b : HasToMove} → b ≡ Nobody → Moved r cs ix cut every b → Searched r cs cut A.Found
+    pub search_found : {b : Option ℕ} → b ≡ None → Moved r cs ix cut every b → Searched r cs cut A.Found
     unfolding Under
     search_found e (nobody w v) = found (arrive r cs cut low (all_tested r (clock_in ix) cs cut g.index.clocks is v (λ k m. w k m refl)))
     search_found e (process p h m) = never (cc)
@@ -195,13 +198,13 @@ module _ {s c ix qs : List ℕ} (g : Given s c ix qs) where
         let inside : p < length cut = omega (arith, is.size) in
         record { there = h; must = m; row = omega arith; inside = inside; small = in_table.there p inside; counted = listed_count s ix g.index.listed p l }
 
-    pub moved_process : {b : HasToMove} {p : ℕ} → b ≡ Process p → Moved r cs ix cut every b → Located p
+    pub moved_process : {b : Option ℕ} {p : ℕ} → b ≡ Some p → Moved r cs ix cut every b → Located p
     moved_process e (nobody w v) = never (cc)
     moved_process {p = p} e (process q h m) = let same : q ≡ p = cc in subst Located same (named h m)
 
     module _ (p : ℕ) (h : p < processes r) (m : MustMove r cs cut p) where
       -- a history that runs out
-      pub search_none : count r p ≤ at cut p → Searched r cs cut A.None
+      pub search_none : count r p ≤ at cut p → Searched r cs cut A.NoCut
       unfolding Moves
       search_none l = none (run_out r cs cut p h l m)
 

@@ -44,6 +44,6 @@ module _ {s c ix qs : List ℕ} (p : Prepared s c ix qs) where
   searched_found {cut} (found w) e = subst (λ k. First (run_in s) k cut) clauses_are w
   searched_found (none w) e = never (cc)
 
-  pub searched_none : {cut : List ℕ} {a : Outcome} → Searched (run_in s) (clauses_of c qs) cut a → a ≡ S.None → (d : List ℕ) → ¬ Satisfies (run_in s) (clauses_for s c) d
+  pub searched_none : {cut : List ℕ} {a : Outcome} → Searched (run_in s) (clauses_of c qs) cut a → a ≡ S.NoCut → (d : List ℕ) → ¬ Satisfies (run_in s) (clauses_for s c) d
   searched_none (found w) e = never (cc)
   searched_none (none w) e = subst (λ k. (d : List ℕ) → ¬ Satisfies (run_in s) k d) clauses_are w

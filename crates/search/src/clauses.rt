@@ -12,18 +12,16 @@ ghost use Rattle.search.specs.Search.{Given, Counted, Tried, KindTested};
 use crate::movers::{channel_mover, local_mover};
 use condition::Clause;
 use condition::clauses::clause_at;
-use cut::HasToMove;
 
 // The clause whose record stands at a place, if it is a local one.
-fn local_clause(run: &[u8], index: &[u16], cond: &[u8], at: usize, cut: &[u16]) -> HasToMove
+fn local_clause(run: &[u8], index: &[u16], cond: &[u8], at: usize, cut: &[u16]) -> Option<usize>
     requires { IndexHolds run.now index.now × IsCut (run_in run.now) cut.now × ClauseKnown cond.now (head_of run.now) at }
     ensures { Tried (run_in run.now) cut.now (clause_at cond.now at) true result }
 {
-    let clause = clause_at(cond, at);
-    match clause {
-        Clause::Local(local) => local_mover(run, index, cut, local),
-        Clause::Channel(_) => HasToMove::Nobody,
-    }
+    let Clause::Local(clause) = clause_at(cond, at) else {
+        return None;
+    };
+    local_mover(run, index, cut, clause)
 }
 
 // The same, if it is a channel clause; the row counts what is in transit.
@@ -34,15 +32,14 @@ fn channel_clause(
     at: usize,
     cut: &[u16],
     counts: &[u16],
-) -> HasToMove
+) -> Option<usize>
     requires { Counted run.now index.now cut.now counts.now × ClauseKnown cond.now (head_of run.now) at }
     ensures { Tried (run_in run.now) cut.now (clause_at cond.now at) false result }
 {
-    let clause = clause_at(cond, at);
-    match clause {
-        Clause::Local(_) => HasToMove::Nobody,
-        Clause::Channel(test) => channel_mover(run, index, cut, test, counts),
-    }
+    let Clause::Channel(clause) = clause_at(cond, at) else {
+        return None;
+    };
+    channel_mover(run, index, cut, clause, counts)
 }
 
 // The first local clause that is false.
@@ -52,19 +49,13 @@ pub(crate) fn first_local(
     cond: &[u8],
     clauses: &[u16],
     cut: &[u16],
-) -> HasToMove
+) -> Option<usize>
     requires { Given run.now cond.now index.now clauses.now × IsCut (run_in run.now) cut.now }
     ensures { KindTested (run_in run.now) (clauses_of cond.now clauses.now) cut.now true result }
 {
-    let mut i: usize = 0;
-    while i < clauses.len() {
-        let named = local_clause(run, index, cond, clauses[i] as usize, cut);
-        let HasToMove::Nobody = named else {
-            return named;
-        };
-        i += 1;
-    }
-    HasToMove::Nobody
+    clauses
+        .iter()
+        .find_map(|&at| local_clause(run, index, cond, at as usize, cut))
 }
 
 // The first channel clause that is false.
@@ -75,17 +66,9 @@ pub(crate) fn first_channel(
     clauses: &[u16],
     cut: &[u16],
     counts: &[u16],
-) -> HasToMove
+) -> Option<usize>
     requires { Given run.now cond.now index.now clauses.now × Counted run.now index.now cut.now counts.now }
     ensures { KindTested (run_in run.now) (clauses_of cond.now clauses.now) cut.now false result }
 {
-    let mut i: usize = 0;
-    while i < clauses.len() {
-        let named = channel_clause(run, index, cond, clauses[i] as usize, cut, counts);
-        let HasToMove::Nobody = named else {
-            return named;
-        };
-        i += 1;
-    }
-    HasToMove::Nobody
+    clauses.iter().find_map(|&at| channel_clause(run, index, cond, at as usize, cut, counts))
 }

@@ -8,21 +8,22 @@ ghost use Rattle.search.specs.Search.{Given, LowestCut, Moved, is_local, Searche
 
 use crate::Outcome;
 use crate::clauses::{first_channel, first_local};
-use cut::HasToMove;
 use cut::clocks::too_low;
 use kept::bring_forward;
 use run::index::count_of;
 
 // Whom a local clause names, else the clocks. Channel clauses are asked last: a stamp is looked for anew each time.
-fn first_behind(run: &[u8], index: &[u16], cond: &[u8], clauses: &[u16], cut: &[u16]) -> HasToMove
+fn first_behind(
+    run: &[u8],
+    index: &[u16],
+    cond: &[u8],
+    clauses: &[u16],
+    cut: &[u16],
+) -> Option<usize>
     requires { Given run.now cond.now index.now clauses.now × LowestCut (run_in run.now) (clauses_of cond.now clauses.now) cut.now }
     ensures { Moved (run_in run.now) (clauses_of cond.now clauses.now) index.now cut.now is_local result }
 {
-    let local = first_local(run, index, cond, clauses, cut);
-    let HasToMove::Nobody = local else {
-        return local;
-    };
-    too_low(index, cut)
+    first_local(run, index, cond, clauses, cut).or_else(|| too_low(index, cut))
 }
 
 // Moves on until nobody has to, or a history runs out. The kept numbers are those of the cut at every turn.
@@ -41,16 +42,13 @@ fn eliminate(
 {
     loop {
         let behind = first_behind(run, index, cond, clauses, cut);
-        let named = match behind {
-            HasToMove::Nobody => first_channel(run, index, cond, clauses, cut, counts),
-            HasToMove::Process(p) => HasToMove::Process(p),
-        };
-        let HasToMove::Process(p) = named else {
+        let named = behind.or_else(|| first_channel(run, index, cond, clauses, cut, counts));
+        let Some(p) = named else {
             break Outcome::Found;
         };
         let at = cut[p];
         if count_of(index, p as u16) <= at {
-            break Outcome::None;
+            break Outcome::NoCut;
         }
         bring_forward(run, index, cut, p, counts, unsent);
         cut[p] = at + 1;

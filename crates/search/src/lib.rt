@@ -10,5 +10,5 @@ pub mod satisfying;
 #[derive(Clone, Copy)]
 pub enum Outcome {
     Found,
-    None,
+    NoCut,
 }

@@ -14,12 +14,11 @@ use clause::channel_tests::channel_passes;
 use clause::local::local_holds;
 use condition::movers::who_moves;
 use condition::{Clause, Local, Test};
-use cut::HasToMove;
 use model::Mover;
 use states::held::channel_at;
 
 // A local clause names its process.
-pub(crate) fn local_mover(run: &[u8], index: &[u16], cut: &[u16], clause: Local) -> HasToMove
+pub(crate) fn local_mover(run: &[u8], index: &[u16], cut: &[u16], clause: Local) -> Option<usize>
     requires { IndexHolds run.now index.now × IsCut (run_in run.now) cut.now × LocalKnown (head_of run.now) clause }
     ensures { Tested (run_in run.now) cut.now (clause_of (Clause.Local clause)) result }
 {
@@ -34,24 +33,22 @@ pub(crate) fn local_mover(run: &[u8], index: &[u16], cut: &[u16], clause: Local)
         clause.comparison,
         clause.constant,
     ) {
-        return HasToMove::Nobody;
+        return None;
     }
-    HasToMove::Process(p)
+    Some(p)
 }
 
 // The end of its channel that a false clause names, where so many messages are in transit.
-fn end_named(run: &[u8], clause: Test, count: usize) -> HasToMove
+fn end_named(run: &[u8], clause: Test, count: usize) -> Option<usize>
     requires { (read_of run.now ≡ accepted (states_of run.now)) × TestKnown (head_of run.now) clause }
     ensures { EndNamed (run_in run.now) clause.channel (test_of clause.test clause.operand) count result }
 {
     let ends = channel_at(run, clause.channel);
-    let from = ends.from as usize;
-    let to = ends.to as usize;
     let mover = who_moves(clause.test, clause.operand, count);
     match mover {
-        Mover::Sender => HasToMove::Process(from),
-        Mover::Receiver => HasToMove::Process(to),
-        Mover::NotLinear => HasToMove::Process(to),
+        Mover::Sender => Some(ends.from as usize),
+        Mover::Receiver => Some(ends.to as usize),
+        Mover::NotLinear => Some(ends.to as usize),
     }
 }
 
@@ -62,14 +59,14 @@ pub(crate) fn channel_mover(
     cut: &[u16],
     clause: Test,
     counts: &[u16],
-) -> HasToMove
+) -> Option<usize>
     requires { Counted run.now index.now cut.now counts.now × TestKnown (head_of run.now) clause }
     ensures { Tested (run_in run.now) cut.now (clause_of (Clause.Channel clause)) result }
 {
     let channel = clause.channel as usize;
     let count = counts[channel] as usize;
     if channel_passes(run, index, cut, clause, count) {
-        return HasToMove::Nobody;
+        return None;
     }
     end_named(run, clause, count)
 }

@@ -8,7 +8,6 @@ ghost use Rattle.condition.specs.Clauses.{clauses_of};
 ghost use Rattle.search.specs.Search.{Given};
 
 use crate::clauses::{first_channel, first_local};
-use cut::HasToMove;
 use cut::clocks::consistent;
 use cut::listing::list_channels;
 
@@ -24,19 +23,14 @@ pub fn satisfied(
     requires { Given run.now cond.now index.now clauses.now × IsCut (run_in run.now) cut.now × (channels ≡ (head_of run.now).channels) }
     ensures { (result ≡ true) ↔ Satisfies (run_in run.now) (clauses_of cond.now clauses.now) cut.now }
 {
-    let local = first_local(run, index, cond, clauses, cut);
-    let HasToMove::Nobody = local else {
+    if first_local(run, index, cond, clauses, cut).is_some() {
         return false;
-    };
+    }
     if !consistent(index, cut) {
         return false;
     }
     let mut counts = [0u16; 16];
     let mut stamps = [0i32; 16];
     list_channels(run, index, cut, channels, &mut counts, &mut stamps);
-    let channel = first_channel(run, index, cond, clauses, cut, &counts);
-    let HasToMove::Nobody = channel else {
-        return false;
-    };
-    true
+    first_channel(run, index, cond, clauses, cut, &counts).is_none()
 }

@@ -1,37 +1,29 @@
--- What is in transit as the sender goes on by one state, and what a scan has seen of it.
-use mathlib.Core.Path.{◌≡◌, refl, ap, ◌∙◌}
+-- What is in transit as the sender goes on by one state.
+use mathlib.Core.Path.{◌≡◌, refl, sym, ap, ◌∙◌}
 use mathlib.Core.Bool.{Bool, true, false, ◌||◌}
 use mathlib.Core.List.{List, []}
 use mathlib.Core.Option.{Option, some, none}
 use Prim.Native.Nat.{ℕ, zero, suc, ◌+◌, ◌≤◌, ◌<◌, zero-le}
+use Rattle.std.proofs.Common.{zero-add}
+use Rattle.std.specs.List.{list_any, range_with_len}
 use native.Mathlib.Numerals.{add-one}
 use native.Mathlib.Omega.{arith}
-use lib.IntN.{ℤ}
 use lib.ListN.{length}
 use Rattle.model.specs.declared.Channel.{Channel}
 use Rattle.model.specs.declared.Message.{Message}
 use Rattle.model.specs.Run.{Run, processes, channel, IsState}
 use Rattle.model.specs.Cut.{at, waiting, add, up_to, between, in_transit}
 use Rattle.model.specs.Clause.{some_of}
-use Rattle.model.proofs.Lists.{some_more}
-use Rattle.model.proofs.Numbers.{T_of, not_T_of}
-use Rattle.model.proofs.Transit.{between_more}
 use Rattle.record.specs.Record.{head_of}
 use Rattle.states.specs.States.{channel_at}
 use Rattle.run.specs.Read.{read_of}
 use Rattle.record.specs.Pass.Read.{accepted}
 use Rattle.run.specs.Said.{states_of, run_in}
 use Rattle.run.proofs.Listed.{sides, channels_are, channel_same}
-use Rattle.transit.specs.declared.Sought.{Sought}
 use Rattle.transit.specs.declared.Span.{Span}
 use Rattle.transit.specs.Asked.{Asked}
-use Rattle.transit.specs.Load.{SoFar, is_sought}
 use Rattle.transit.specs.Waiting.{span_of, OfChannel}
 use Rattle.transit.proofs.Stored.{states_few}
-
-length-add : (o : Option Message) (ms : List Message) → length (add o ms) ≡ length ms + length (add o [])
-length-add none ms = omega arith
-length-add (some m) ms = omega arith
 
 some_add : (f : Message → Bool) (o : Option Message) (ms : List Message) → some_of f (add o ms) ≡ (some_of f (add o []) || some_of f ms)
 some_add f none ms = refl
@@ -41,40 +33,38 @@ some_add f (some m) ms = go (f m)
     go true = refl
     go false = refl
 
--- what a scan has seen of some messages, none of which has the stamp that is sought
-pub record Scanned (sought : Sought) (ms : List Message) (n : ℕ) (x : ℤ) : Type 0 where
-  pub unmet : some_of (is_sought sought) ms ≡ false
-  pub count : n ≡ length ms
-  pub lowest : SoFar ms x
+or_next : (x y z : Bool) → ((x || y) || z) ≡ (y || (x || z))
+or_next true true z = refl
+or_next true false z = refl
+or_next false y z = refl
 
-module _ (r : Run) (c b k : ℕ) where
-  next_between : between r c (k + 1) b ≡ add (waiting r c b (k + 1)) (between r c k b)
+pub or_false : (t : Bool) → (t || false) ≡ t
+or_false true = refl
+or_false false = refl
+
+module _ (r : Run) (c b : ℕ) where
+  pub next_between : (k : ℕ) → between r c (k + 1) b ≡ add (waiting r c b (k + 1)) (between r c k b)
   unfolding between
-  next_between = rw add-one refl
+  next_between k = rw add-one refl
 
-  -- none so far, and whether the next one does
-  pub some_next : (f : Message → Bool) → some_of f (between r c k b) ≡ false → some_of f (between r c (k + 1) b) ≡ some_of f (add (waiting r c b (k + 1)) [])
-  some_next f d = ap (some_of f) next_between ∙ some_add f (waiting r c b (k + 1)) (between r c k b) ∙ ap (λ t. some_of f (add (waiting r c b (k + 1)) []) || t) d ∙ or_false (some_of f (add (waiting r c b (k + 1)) []))
-    where
-      or_false : (t : Bool) → (t || false) ≡ t
-      or_false true = refl
-      or_false false = refl
+  -- state k + 1 has a message for which f says so
+  abbrev pub one_more : (Message → Bool) → ℕ → Bool
+  one_more f k = some_of f (add (waiting r c b (k + 1)) [])
 
-  -- what one of the first states sends stays in transit however far the sender goes
-  pub some_stays : (f : Message → Bool) {a : ℕ} → k ≤ a → some_of f (between r c k b) ≡ true → some_of f (between r c a b) ≡ true
-  some_stays f {a} h e = go (some_of f (between r c a b)) refl
-    where
-      go : (t : Bool) → some_of f (between r c a b) ≡ t → t ≡ true
-      go true d = refl
-      go false d = absurd (not_T_of d (some_more f (between_more r c h (omega arith)) (T_of e)))
+  some_next : (f : Message → Bool) (k : ℕ) → some_of f (between r c (k + 1) b) ≡ (one_more f k || some_of f (between r c k b))
+  some_next f k = ap (some_of f) (next_between k) ∙ some_add f (waiting r c b (k + 1)) (between r c k b)
 
-  pub scanned_next : {sought : Sought} {n m : ℕ} {x y : ℤ} → Scanned sought (between r c k b) n x → some_of (is_sought sought) (add (waiting r c b (k + 1)) []) ≡ false
-      → m ≡ length (add (waiting r c b (k + 1)) []) → SoFar (add (waiting r c b (k + 1)) (between r c k b)) y → Scanned sought (between r c (k + 1) b) (n + m) y
-  scanned_next {sought} {n} {m} w d e z = record {
-    unmet = some_next (is_sought sought) w.unmet ∙ d;
-    count = omega (arith, w.count, e, ap length next_between, length-add (waiting r c b (k + 1)) (between r c k b));
-    lowest = rw next_between z;
-  }
+  some_from : (f : Message → Bool) (n k : ℕ) → (list_any (one_more f) (range_with_len k n) || some_of f (between r c k b)) ≡ some_of f (between r c (k + n) b)
+  some_from f zero k = let e : k + 0 ≡ k = omega arith in rw e refl
+  some_from f (suc n) k =
+      let rest = list_any (one_more f) (range_with_len (k + 1) n) in
+      let e : k + 1 + n ≡ k + suc n = omega arith in
+      or_next (one_more f k) rest (some_of f (between r c k b)) ∙ ap (λ t. rest || t) (sym (some_next f k)) ∙ some_from f n (k + 1) ∙ ap (λ a. some_of f (between r c a b)) e
+
+  -- one of the states from 1 on has it
+  pub some_between : (f : Message → Bool) (n : ℕ) → list_any (one_more f) (range_with_len 0 n) ≡ some_of f (between r c n b)
+  unfolding between
+  some_between f n = sym (or_false (list_any (one_more f) (range_with_len 0 n))) ∙ some_from f n 0 ∙ ap (λ a. some_of f (between r c a b)) (zero-add n)
 
 -- the ends of a channel, as its record says them
 pub record Ends (r : Run) (c : ℕ) (e : Channel) : Type 0 where
@@ -97,6 +87,10 @@ up_to_few f (suc a) = go (f (suc a)) (up_to_few f a)
     go : (m : Option Message) → length (up_to f a) ≤ a → length (add m (up_to f a)) ≤ suc a
     go none h = omega arith
     go (some m) h = omega arith
+
+pub between_few : (r : Run) (c b k : ℕ) → length (between r c k b) ≤ k
+unfolding between
+between_few r c b k = up_to_few (waiting r c b) k
 
 -- ---- a span of a channel that is asked
 

@@ -1,20 +1,18 @@
 -- What is in transit on a channel, as code holds it and looks for it.
-use Rattle.std.specs.Prelude.{◌≡◌, List, ℕ}
-use Rattle.std.proofs.Math.Option.{Option, some, none}
+use Rattle.std.specs.Prelude.{◌≡◌, List, ℕ, Option, Some, None}
+use Rattle.std.proofs.Math.Option as M
 use Rattle.model.specs.declared.Message.{Message}
 use Rattle.model.specs.Run.{Run, channel}
 use Rattle.model.specs.Cut.{at}
 use Rattle.transit.specs.declared.Span.{Span}
-use Rattle.transit.specs.declared.Waiting.{Waiting}
-use Rattle.transit.specs.declared.Waiting.TheVariants.{Nothing, One}
 
-unfoldable pub as_held : Option Message → Waiting
-as_held none = Nothing
-as_held (some m) = One m
+unfoldable pub as_held : M.Option Message → Option Message
+as_held M.none = None
+as_held (M.some m) = Some m
 
-unfoldable pub inside : Waiting → Option Message
-inside Nothing = none
-inside (One m) = some m
+unfoldable pub inside : Option Message → M.Option Message
+inside None = M.none
+inside (Some m) = M.some m
 
 -- how far the ends of channel c are at a cut
 unfoldable pub span_of : Run → List ℕ → ℕ → Span

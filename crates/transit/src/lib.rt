@@ -5,33 +5,9 @@
 pub mod scan;
 mod sender;
 
-use model::Message;
-
-// What a state has in transit on a channel.
+// What a channel that isn't empty has in transit: so many messages, with the lowest of their stamps.
 #[derive(Clone, Copy)]
-pub enum Waiting {
-    Nothing,
-    One(Message),
-}
-
-// What a channel has in transit: nothing, or so many messages with the lowest of their stamps.
-#[derive(Clone, Copy)]
-pub enum Load {
-    Empty,
-    Messages(usize, i32),
-}
-
-// What a scan of a channel seeks: nothing, so that it sees every message, or a stamp.
-#[derive(Clone, Copy)]
-pub enum Sought {
-    Nothing,
-    Stamp(i32),
-}
-
-// What a scan has seen: whether it met the stamp, which ends it; and up to there how many messages, and the lowest of their stamps.
-#[derive(Clone, Copy)]
-pub struct Seen {
-    pub met: bool,
+pub struct Load {
     pub count: usize,
     pub lowest: i32,
 }

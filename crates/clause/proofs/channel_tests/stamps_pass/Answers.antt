@@ -9,10 +9,8 @@ use mir.Val.{SFits, to_z, of_z}
 use mir.Facts.{to_z-of_z}
 use lib.IntN.{ℤ}
 use Rattle.model.specs.declared.Message.{Message}
-use Rattle.model.specs.Cut.{in_transit}
 use Rattle.model.specs.Clause.{some_of, same_z}
 use Rattle.record.specs.Bytes.{signed}
-use Rattle.run.specs.Said.{run_in}
 use Rattle.clause.proofs.Passed.{some_has, test_4, test_5}
 use Rattle.clause.proofs.channel_tests.stamps_pass.Goals as goal
 
@@ -23,13 +21,8 @@ sought operand ms d fits e = d ∙ ap (λ (y : ℤ). some_of (λ m. same_z m.sta
 
 pub returns-in-4 : goal.returns-in-4
 returns-in-4 c =
-    let there : List Message = let a = c.args in in_transit (run_in a.run.now) a.cut.now a.clause.channel in
-    sought _ (there) c.has_stamp.ensures (sfits_of c.signed_of.type_inv) c.signed_of.ensures ∙ test_4 _ _ c.in-4.is
+    sought _ _ c.has_stamp.ensures (sfits_of c.signed_of.type_inv) c.signed_of.ensures ∙ test_4 _ _ c.in-4.is
 
 pub returns-in-5 : goal.returns-in-5
 returns-in-5 c =
-    let there : List Message = let a = c.args in in_transit (run_in a.run.now) a.cut.now a.clause.channel in
-    ap not (sought _ (there) c.has_stamp-in-5.ensures (sfits_of c.signed_of-in-5.type_inv) c.signed_of-in-5.ensures) ∙ test_5 _ _ c.in-5.is
-
-pub returns-in_default : goal.returns-in_default
-returns-in_default c = c.lowest_passes.ensures _ c.load_on.ensures.0
+    ap not (sought _ _ c.has_stamp-in-5.ensures (sfits_of c.signed_of-in-5.type_inv) c.signed_of-in-5.ensures) ∙ test_5 _ _ c.in-5.is

@@ -1,21 +1,29 @@
 -- `compares` meets its contract: each comparison as the definition has it, of numbers that come back from their bits.
+use borrow.Author.Rules.{rules}
 use native.Mathlib.Omega.{arith}
-use mathlib.Core.Path.{ap, ◌∙◌}
+use mathlib.Core.Path.{◌≡◌, ap, ◌∙◌}
 use mathlib.Core.Bool.{not}
 use borrow.Author.Tests.{ne_eqb}
+use lib.Dec.{eqb}
 use lib.Signed.{le_z}
-use Rattle.model.specs.Clause.{same_z}
+use mir.Syntax.{w32}
+use mir.Val.{of_z}
+use Rattle.std.specs.Ordering.{int_eq}
 use Rattle.condition.specs.Clauses.{comparison_of}
-use Rattle.transit.proofs.Signs.{both}
+use Rattle.transit.proofs.Signs.{both, same_int}
 use Rattle.clause.proofs.compare.compares.Goals as goal
 
 pub returns-in-1 : goal.returns-in-1
 unfolding comparison_of
-returns-in-1 c = both same_z c.ranges.value c.ranges.x ∙ simp c.in-1.is
+returns-in-1 c =
+    let same : eqb (of_z w32 c.args.value) (of_z w32 c.args.x) ≡ int_eq c.args.value c.args.x = search rules in
+    same ∙ same_int c.args.value c.args.x ∙ simp c.in-1.is
 
 pub returns-in-2 : goal.returns-in-2
 unfolding comparison_of
-returns-in-2 c = ap not (both same_z c.ranges.value c.ranges.x) ∙ simp c.in-2.is
+returns-in-2 c =
+    let same : eqb (of_z w32 c.args.value) (of_z w32 c.args.x) ≡ int_eq c.args.value c.args.x = search rules in
+    ap not (same ∙ same_int c.args.value c.args.x) ∙ simp c.in-2.is
 
 pub returns-in-3 : goal.returns-in-3
 unfolding comparison_of

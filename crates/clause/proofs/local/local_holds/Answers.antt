@@ -2,9 +2,9 @@
 use borrow.Author.Rules.{sfits_of}
 use native.Mathlib.Omega.{arith}
 use mathlib.Core.Path.{◌≡◌, ap, ◌∙◌}
-use Prim.Native.Nat.{◌+◌, ◌≤◌}
+use Prim.Native.Nat.{◌+◌}
 use lib.IntN.{ℤ}
-use lib.ListN.{length, get_or}
+use lib.ListN.{get_or}
 use Rattle.model.specs.Clause.{compares}
 use Rattle.record.specs.Bytes.{i32_at}
 use Rattle.record.specs.Layout.{value_place}
@@ -18,17 +18,8 @@ use Rattle.clause.proofs.local.local_holds.Goals as goal
 pub place_of-requires : goal.place_of-requires
 place_of-requires c = let r = c.requires in (r.0.listed.long, listed_slot _ _ r.0.listed r.1)
 
-pub overflow_add-at : goal.overflow_add-at
-overflow_add-at c =
-    let there : let a = c.args in c.place_of.result + c.value_place.result ≡ get_or a.index.now (place_at a.process a.k) 0 + value_place a.value = omega (arith, c.place_of.ensures, c.value_place.ensures) in
-    let whole : c.place_of.result + c.value_place.result + 4 ≤ length c.args.run.now = let r = c.requires in omega (arith, there, value_whole r.0 _ _ r.1 _ r.2) in
-    record { fits = omega (arith, whole) }
-
 pub i32_at-held-requires : goal.i32_at-held-requires
-i32_at-held-requires c =
-    let there : let a = c.args in c.place_of.result + c.value_place.result ≡ get_or a.index.now (place_at a.process a.k) 0 + value_place a.value = omega (arith, c.place_of.ensures, c.value_place.ensures) in
-    let whole : c.place_of.result + c.value_place.result + 4 ≤ length c.args.run.now = let r = c.requires in omega (arith, there, value_whole r.0 _ _ r.1 _ r.2) in
-    whole
+i32_at-held-requires c = let r = c.requires in omega (arith, c.place_of.ensures, c.value_place.ensures, value_whole r.0 _ _ r.1 _ r.2)
 
 pub returns : goal.returns
 returns c =

@@ -1,70 +1,60 @@
--- `behind` meets its contract. The invariant of its loop: what is left to look at gives the whole. The measure is the number of processes left.
+-- `behind` meets its contract: the first that the test says is the first that is behind.
+use Rattle.std.proofs.Common.{rules, tests, MatchOption, Option, Some, None}
+use Rattle.std.proofs.lemmas.Iterator.{first_from_Range, serves_from_Range}
+use Rattle.std.proofs.lemmas.List.{get_or_read}
 use native.Mathlib.Omega.{arith}
-use mathlib.Core.Path.{◌≡◌, refl, sym, ap, ◌∙◌}
-use mathlib.Core.Bool.{Bool, true, false, cond}
-use Prim.Native.Nat.{ℕ, zero-le, ◌<◌}
+use mathlib.Core.Path.{◌≡◌, refl, ap, ◌∙◌}
+use mathlib.Core.Bool.{Bool, true, false, not, ◌&&◌}
+use mathlib.Core.List.{List}
+use Prim.Native.Nat.{ℕ, ◌*◌, ◌≤◌, ◌<◌}
+use mir.Syntax.{w64}
+use mir.Val.{Fits}
+use lib.Dec.{eqb, leb}
 use lib.ListN.{length, get_or}
 use Rattle.model.specs.Cut.{at}
 use Rattle.run.specs.Index.{clock_in, HasSlot}
 use Rattle.run.proofs.Clocks.{clock_long, clock_part}
-use Rattle.cut.specs.declared.HasToMove.TheVariants.{Nobody, Process}
-use Rattle.cut.specs.Clocks.{if_behind, first_from, behind_of}
-use Rattle.cut.proofs.First.{first_turn, first_stop, first_done}
+use Rattle.cut.specs.Clocks.{if_behind, behind_of, InTable}
+use Rattle.cut.proofs.First.{first_sought}
 use Rattle.cut.proofs.clocks.behind.Goals as goal
 
-chosen : (t : Bool) (i : ℕ) → t ≡ true → cond t (Process i) Nobody ≡ Process i
-chosen t i e = rw e refl
+-- the test, by the row of j's clock
+abbrev passes : List ℕ → List ℕ → ℕ → ℕ → Bool
+passes cut row j i = not (eqb i j) && leb (at cut i) (get_or row i 0)
 
-passed_over : (t : Bool) (i : ℕ) → t ≡ false → cond t (Process i) Nobody ≡ Nobody
-passed_over t i e = rw e refl
+module _ (clock : ℕ → ℕ → ℕ → ℕ) (cut row : List ℕ) (j : ℕ) (is : (i : ℕ) → i < length cut → get_or row i 0 ≡ clock j (at cut j) i) where
+  named : (i : ℕ) → i < length cut → passes cut row j i ≡ true → if_behind clock cut j i ≡ Some i
+  unfolding if_behind
+  named i h e = rw (rw (is i h) at e) refl
 
-pub overflow_cast-j : goal.overflow_cast-j
-overflow_cast-j c = let r = c.requires in record { fits = omega (arith, r.1.few, r.2) }
+  passed_over : (i : ℕ) → i < length cut → passes cut row j i ≡ false → if_behind clock cut j i ≡ None
+  unfolding if_behind
+  passed_over i h e = rw (rw (is i h) at e) refl
 
-pub offset_bounds-cut-j : goal.offset_bounds-cut-j
-offset_bounds-cut-j c = let r = c.requires in record { fits = omega (arith, r.1.few, r.2) }
+  sought : (r : Option ℕ) → MatchOption r ((k : ℕ) → 0 ≤ k → k < length cut → passes cut row j k ≡ false) (λ i. (0 ≤ i) × (i < length cut) × (passes cut row j i ≡ true) × ((k : ℕ) → 0 ≤ k → k < i → passes cut row j k ≡ false))
+      → r ≡ behind_of clock cut j
+  unfolding behind_of
+  sought None w = first_sought _ _ None (λ i h. passed_over i h (w i (omega arith) h))
+  sought (Some i) (low, h, e, w) = first_sought _ _ (Some i) (i, h, named i h e, λ k g. passed_over k (omega arith) (w k (omega arith) g))
 
-pub bounds-cut-j : goal.bounds-cut-j
-bounds-cut-j c = c.requires.2
+slot : (cut : List ℕ) (j : ℕ) → InTable cut → j < length cut → HasSlot j (at cut j)
+slot cut j w h = record { process = omega (arith, w.few); counted = w.counted j h; few = w.there j h }
 
-pub clock_of-clock-requires : goal.clock_of-clock-requires
-clock_of-clock-requires c =
-    let has_slot : HasSlot c.args.j (at c.args.cut.now c.args.j) = let r = c.requires in record { process = omega (arith, r.1.few, r.2); counted = r.1.counted _ r.2; few = r.1.there _ r.2 } in
-    (c.requires.0, has_slot)
-
-pub loop-i-init : goal.loop-i-init
-unfolding behind_of
-loop-i-init c = let a = c.args in (zero-le, ap (λ n. first_from (if_behind (clock_in a.index.now) a.cut.now a.j) n 0) (omega arith))
-
-pub offset_bounds-clock-i : goal.offset_bounds-clock-i
-offset_bounds-clock-i c =
-    let eight : c.loop-i.i < 8 = omega (arith, c.requires.1.few, c.loop-i-test.true) in
-    record { fits = omega (arith, eight) }
-
-pub bounds-clock-i : goal.bounds-clock-i
-bounds-clock-i c =
-    let has_slot : HasSlot c.args.j (at c.args.cut.now c.args.j) = let r = c.requires in record { process = omega (arith, r.1.few, r.2); counted = r.1.counted _ r.2; few = r.1.there _ r.2 } in
-    let eight : c.loop-i.i < 8 = omega (arith, c.requires.1.few, c.loop-i-test.true) in
-    let long = ap length c.clock_of-clock.ensures ∙ clock_long _ c.requires.0 _ _ (has_slot) in
-    omega (arith, eight, long)
-
-pub returns-then-i-j : goal.returns-then-i-j
-unfolding if_behind
-returns-then-i-j c =
-    let has_slot : HasSlot c.args.j (at c.args.cut.now c.args.j) = let r = c.requires in record { process = omega (arith, r.1.few, r.2); counted = r.1.counted _ r.2; few = r.1.there _ r.2 } in
-    let eight : c.loop-i.i < 8 = omega (arith, c.requires.1.few, c.loop-i-test.true) in
-    let told : let a = c.args in get_or c.clock_of-clock.result.now c.loop-i.i 0 ≡ clock_in a.index.now a.j (at a.cut.now a.j) c.loop-i.i = ap (λ l. get_or l c.loop-i.i 0) c.clock_of-clock.ensures ∙ clock_part _ c.requires.0 _ _ (has_slot) _ (eight) in
-    let l = c.loop-i in
-    sym (l.invariant.1 ∙ first_stop _ _ l.i _ (omega (arith, c.loop-i-test.true)) (chosen _ _ (rw (told) at c.if-i-j.true)))
-
-pub loop-i-preserved : goal.loop-i-preserved
-unfolding if_behind
-loop-i-preserved c =
-    let has_slot : HasSlot c.args.j (at c.args.cut.now c.args.j) = let r = c.requires in record { process = omega (arith, r.1.few, r.2); counted = r.1.counted _ r.2; few = r.1.there _ r.2 } in
-    let eight : c.loop-i.i < 8 = omega (arith, c.requires.1.few, c.loop-i-test.true) in
-    let told : let a = c.args in get_or c.clock_of-clock.result.now c.loop-i.i 0 ≡ clock_in a.index.now a.j (at a.cut.now a.j) c.loop-i.i = ap (λ l. get_or l c.loop-i.i 0) c.clock_of-clock.ensures ∙ clock_part _ c.requires.0 _ _ (has_slot) _ (eight) in
-    let l = c.loop-i in
-    (omega (arith, c.loop-i-test.true), l.invariant.1 ∙ first_turn _ _ l.i (omega (arith, c.loop-i-test.true)) (passed_over _ _ (rw (told) at c.if-i-j.false)))
+pub find-requires-clause-callable : goal.find-requires-clause-callable
+find-requires-clause-callable c =
+    let few = c.requires.1.few in
+    let long : length c.clock_of-clock.result.now ≡ 8 = ap length c.clock_of-clock.ensures ∙ clock_long _ c.requires.0 _ _ (slot c.args.cut.now c.args.j c.requires.1 c.requires.2) in
+    serves_from_Range (λ x q k. search (rules, tests)) (λ x low high y e.
+    let in_cut : y.now < length c.args.cut.now = omega arith in
+    let in_row : y.now < length c.clock_of-clock.result.now = omega arith in
+    let fits : Fits w64 (y.now * 2) = record { fits = omega arith } in
+    search rules)
 
 pub returns : goal.returns
-returns c = sym (c.loop-i.invariant.1 ∙ first_done _ _ _ (omega arith))
+returns c =
+    let cut = c.args.cut.now in
+    let row = c.clock_of-clock.result.now in
+    let told : (i : ℕ) → i < length cut → get_or row i 0 ≡ clock_in c.args.index.now c.args.j (at cut c.args.j) i = λ i h. ap (λ l. get_or l i 0) c.clock_of-clock.ensures ∙ clock_part _ c.requires.0 _ _ (slot cut c.args.j c.requires.1 c.requires.2) _ (omega (arith, c.requires.1.few)) in
+    sought _ cut row c.args.j told _ (first_from_Range _ _ _ _ (λ i. passes cut row c.args.j i ≡ true) (λ i. passes cut row c.args.j i ≡ false) c.find.ensures.ran
+    (λ x q k. grind (arith, tests, get_or_read))
+    (λ x q k. (search rules, grind (arith, tests, get_or_read))))

@@ -6,12 +6,12 @@ use mir.Facts.{to_z-of_z}
 use Rattle.cut.specs.Entered.{with_lowest}
 use Rattle.cut.proofs.listing.enter.Goals as goal
 
-pub returns-in-Empty : goal.returns-in-Empty
+pub returns-in_default : goal.returns-in_default
 unfolding with_lowest
-returns-in-Empty c = rw c.in-Empty.is refl
+returns-in_default c = rw c.in_default.is refl
 
-pub returns-in-Messages : goal.returns-in-Messages
+pub returns-in-Some : goal.returns-in-Some
 unfolding with_lowest
-returns-in-Messages c =
-    let fits : SFits w32 c.in-Messages.lowest = search rules in
-    rw (to_z-of_z fits, c.in-Messages.is) refl
+returns-in-Some c =
+    let fits : SFits w32 c.in-Some.load.lowest = search rules in
+    rw (to_z-of_z fits, c.in-Some.is) refl

@@ -1,5 +1,4 @@
 -- `list_channels` meets its contract. The invariant of its loop: the channels so far have their numbers and lowest stamps in the first places, and the other places are as they were.
-use Prim.Native.Nat.{◌-◌, ◌≤◌}
 use lib.ListN.{length}
 use Rattle.model.specs.Cut.{in_transit}
 use Rattle.run.specs.Said.{run_in}
@@ -9,7 +8,4 @@ use Rattle.cut.proofs.listing.list_channels.Given as goal
 
 abbrev pub invariant-loop-channel : goal.invariant-loop-channel
 invariant-loop-channel l =
-    (l.channel ≤ l.channels) × Filled (λ c. length (in_transit (run_in l.run) l.cut c)) l.channel l.initial.counts l.counts × WroteLowest (run_in l.run) l.cut l.channel l.initial.stamps l.stamps
-
-abbrev pub decreases-loop-channel : goal.decreases-loop-channel
-decreases-loop-channel l = l.channels - l.channel
+    Filled (λ c. length (in_transit (run_in l.run) l.cut c)) l.channel l.initial.counts l.counts × WroteLowest (run_in l.run) l.cut l.channel l.initial.stamps l.stamps

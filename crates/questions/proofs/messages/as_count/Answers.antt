@@ -6,12 +6,12 @@ use mir.Facts.{to_z-of_z}
 use Rattle.questions.specs.Inner.{as_count}
 use Rattle.questions.proofs.messages.as_count.Goals as goal
 
-pub returns-in-Empty : goal.returns-in-Empty
+pub returns-in-None : goal.returns-in-None
 unfolding as_count
-returns-in-Empty c = rw c.in-Empty.is refl
+returns-in-None c = rw c.in-None.is refl
 
-pub returns-in-Messages : goal.returns-in-Messages
+pub returns-in-Some : goal.returns-in-Some
 unfolding as_count
-returns-in-Messages c =
-    let fits : SFits w32 c.in-Messages.lowest = search rules in
-    rw (to_z-of_z fits, c.in-Messages.is) refl
+returns-in-Some c =
+    let fits : SFits w32 c.in-Some.load.lowest = search rules in
+    rw (to_z-of_z fits, c.in-Some.is) refl

@@ -1,140 +1,83 @@
 -- `eliminate` meets its contract. The invariant of its loop: the cut is one of the run, at or below every satisfying cut; the kept numbers are those of the
 -- cut, in rows of the lengths they had. The measure is 4,096 less what the cut's numbers add up to.
+use Rattle.std.proofs.Common.{rules, MatchOption, Some, false}
 use native.Mathlib.Omega.{arith}
-use mathlib.Core.Path.{◌≡◌, refl, sym, ◌∙◌}
+use mathlib.Core.Path.{◌≡◌, ◌∙◌}
 use Prim.Native.Nat.{◌<◌}
-use lib.ListN.{length, get_or}
+use lib.ListN.{get_or}
 use Rattle.model.specs.Run.{count}
 use Rattle.run.specs.Said.{run_in}
 use Rattle.condition.specs.Clauses.{clauses_of}
-use Rattle.search.specs.Search.{Moved, every}
-use Rattle.search.proofs.Moving.{Located, moved_channels, moved_before, search_found, moved_process, search_none, search_move, search_less}
+use Rattle.search.specs.Search.{Moved, KindTested, every}
+use Rattle.search.proofs.Moving.{Located, moved_last, search_found, moved_process, search_none, search_move, search_less}
 use Rattle.search.proofs.eliminate.eliminate.Goals as goal
-use Rattle.search.proofs.eliminate.eliminate.Goals.{Joined-behind, In-Process-named, in-Nobody, in-Process}
-
-pub loop-cut-init : goal.loop-cut-init
-loop-cut-init c = let r = c.requires in (r.1, r.2, refl, refl)
+use Rattle.search.proofs.eliminate.eliminate.Goals.{After-or_else-named, In-Some}
 
 -- whoever is named has to move, whichever test named it
-told : (c : Joined-behind) → Moved (run_in c.args.run.now) (clauses_of c.args.cond.now c.args.clauses.now) c.args.index.now c.loop-cut.cut every c.match-behind.named
+told : (c : After-or_else-named) → Moved (run_in c.args.run.now) (clauses_of c.args.cond.now c.args.clauses.now) c.args.index.now c.loop-p.cut every c.or_else-named.result
 told c =
-    elim c.match-behind.branch [
-      | in-Nobody w ↦ moved_channels c.requires.0 c.loop-cut.cut c.loop-cut.invariant.0 w.in-Nobody.is c.first_behind-behind.ensures w.first_channel-named.ensures w.named-is
-      | in-Process w ↦ moved_before c.requires.0 c.loop-cut.cut c.loop-cut.invariant.0 w.in-Process.is c.first_behind-behind.ensures w.named-is
-    ]
+    let last : MatchOption c.first_behind-behind.result (KindTested (run_in c.args.run.now) (clauses_of c.args.cond.now c.args.clauses.now) c.loop-p.cut false c.or_else-named.result) (λ p. c.or_else-named.result ≡ Some p) = search rules in
+    moved_last c.requires.0 c.loop-p.cut c.loop-p.invariant.0 c.first_behind-behind.ensures last
 
-mover : (c : In-Process-named) → Moved (run_in c.args.run.now) (clauses_of c.args.cond.now c.args.clauses.now) c.args.index.now c.loop-cut.cut every c.match-behind.named
-    → Located c.requires.0 c.loop-cut.cut c.loop-cut.invariant.0 c.in-Process-named.p
-mover c = moved_process c.requires.0 c.loop-cut.cut c.loop-cut.invariant.0 c.in-Process-named.is
-
-pub first_behind-behind-requires : goal.first_behind-behind-requires
-first_behind-behind-requires c = (c.requires.0, c.loop-cut.invariant.0)
-
-pub first_channel-named-requires : goal.first_channel-named-requires
-first_channel-named-requires c =
-    let g = c.requires.0 in
-    (g, record { index = g.index; is_cut = c.loop-cut.invariant.0.is_cut; each = c.loop-cut.invariant.1.first })
+mover : (c : In-Some) → Moved (run_in c.args.run.now) (clauses_of c.args.cond.now c.args.clauses.now) c.args.index.now c.loop-p.cut every c.or_else-named.result
+    → Located c.requires.0 c.loop-p.cut c.loop-p.invariant.0 c.in-Some.p
+mover c = moved_process c.requires.0 c.loop-p.cut c.loop-p.invariant.0 c.in-Some.is
 
 pub offset_bounds-cut-p : goal.offset_bounds-cut-p
 offset_bounds-cut-p c =
-    let who = told (goal.at.offset_bounds-cut-p c).Joined-behind in
-    let found = mover (goal.at.offset_bounds-cut-p c).In-Process-named who in
+    let found = mover (goal.at.offset_bounds-cut-p c).In-Some (told (goal.at.offset_bounds-cut-p c).After-or_else-named) in
     omega (arith, found.row)
 
 pub bounds-cut-p : goal.bounds-cut-p
 bounds-cut-p c =
-    let who = told (goal.at.bounds-cut-p c).Joined-behind in
-    let found = mover (goal.at.bounds-cut-p c).In-Process-named who in
+    let found = mover (goal.at.bounds-cut-p c).In-Some (told (goal.at.bounds-cut-p c).After-or_else-named) in
     omega (arith, found.inside)
 
 pub overflow_cast-p : goal.overflow_cast-p
 overflow_cast-p c =
-    let who = told (goal.at.overflow_cast-p c).Joined-behind in
-    let found = mover (goal.at.overflow_cast-p c).In-Process-named who in
+    let found = mover (goal.at.overflow_cast-p c).In-Some (told (goal.at.overflow_cast-p c).After-or_else-named) in
     record { fits = omega (arith, found.row) }
 
 pub count_of-requires : goal.count_of-requires
 count_of-requires c =
-    let who = told (goal.at.count_of-requires c).Joined-behind in
-    let found = mover (goal.at.count_of-requires c).In-Process-named who in
+    let found = mover (goal.at.count_of-requires c).In-Some (told (goal.at.count_of-requires c).After-or_else-named) in
     (c.requires.0.index.listed.long, found.row)
 
 pub bring_forward-requires : goal.bring_forward-requires
 bring_forward-requires c =
-    let who = told (goal.at.bring_forward-requires c).Joined-behind in
-    let found = mover (goal.at.bring_forward-requires c).In-Process-named who in
-    let further : get_or c.loop-cut.cut c.in-Process-named.p 0 < count (run_in c.args.run.now) c.in-Process-named.p = omega (arith, found.counted, c.count_of.ensures, c.if-count_of-at.false) in
-    (record { index = c.requires.0.index; is_cut = c.loop-cut.invariant.0.is_cut; process = found.there; further = further }, c.loop-cut.invariant.1)
+    let found = mover (goal.at.bring_forward-requires c).In-Some (told (goal.at.bring_forward-requires c).After-or_else-named) in
+    let further : get_or c.loop-p.cut c.in-Some.p 0 < count (run_in c.args.run.now) c.in-Some.p = omega (arith, found.counted, c.count_of.ensures, c.if-count_of-at.false) in
+    (record { index = c.requires.0.index; is_cut = c.loop-p.invariant.0.is_cut; process = found.there; further = further }, c.loop-p.invariant.1)
 
-pub overflow_add-cut : goal.overflow_add-cut
-overflow_add-cut c =
-    let who = told (goal.at.overflow_add-cut c).Joined-behind in
-    let found = mover (goal.at.overflow_add-cut c).In-Process-named who in
-    omega (arith, found.small)
-
-pub offset_bounds-cut-p-in-loop-cut : goal.offset_bounds-cut-p-in-loop-cut
-offset_bounds-cut-p-in-loop-cut c =
-    let who = told (goal.at.offset_bounds-cut-p-in-loop-cut c).Joined-behind in
-    let found = mover (goal.at.offset_bounds-cut-p-in-loop-cut c).In-Process-named who in
-    omega (arith, found.row)
-
-pub bounds-cut-p-in-loop-cut : goal.bounds-cut-p-in-loop-cut
-bounds-cut-p-in-loop-cut c =
-    let who = told (goal.at.bounds-cut-p-in-loop-cut c).Joined-behind in
-    let found = mover (goal.at.bounds-cut-p-in-loop-cut c).In-Process-named who in
+pub bounds-cut-p-in-loop-p : goal.bounds-cut-p-in-loop-p
+bounds-cut-p-in-loop-p c =
+    let found = mover (goal.at.bounds-cut-p-in-loop-p c).In-Some (told (goal.at.bounds-cut-p-in-loop-p c).After-or_else-named) in
     omega (arith, found.inside)
 
-pub loop-cut-smaller : goal.loop-cut-smaller
-loop-cut-smaller c =
-    let who = told (goal.at.loop-cut-smaller c).Joined-behind in
-    let found = mover (goal.at.loop-cut-smaller c).In-Process-named who in
-    let further : get_or c.loop-cut.cut c.in-Process-named.p 0 < count (run_in c.args.run.now) c.in-Process-named.p = omega (arith, found.counted, c.count_of.ensures, c.if-count_of-at.false) in
-    let n = found in
-    search_less c.requires.0 c.loop-cut.cut c.loop-cut.invariant.0 _ n.there n.must (further)
+pub loop-p-smaller : goal.loop-p-smaller
+loop-p-smaller c =
+    let found = mover (goal.at.loop-p-smaller c).In-Some (told (goal.at.loop-p-smaller c).After-or_else-named) in
+    let further : get_or c.loop-p.cut c.in-Some.p 0 < count (run_in c.args.run.now) c.in-Some.p = omega (arith, found.counted, c.count_of.ensures, c.if-count_of-at.false) in
+    search_less c.requires.0 c.loop-p.cut c.loop-p.invariant.0 _ found.there found.must further
 
-pub loop-cut-preserved : goal.loop-cut-preserved
-loop-cut-preserved c =
-    let who = told (goal.at.loop-cut-preserved c).Joined-behind in
-    let found = mover (goal.at.loop-cut-preserved c).In-Process-named who in
-    let further : get_or c.loop-cut.cut c.in-Process-named.p 0 < count (run_in c.args.run.now) c.in-Process-named.p = omega (arith, found.counted, c.count_of.ensures, c.if-count_of-at.false) in
-    let n = found in (
-      search_move c.requires.0 c.loop-cut.cut c.loop-cut.invariant.0 _ n.there n.must (further),
+pub loop-p-preserved : goal.loop-p-preserved
+loop-p-preserved c =
+    let found = mover (goal.at.loop-p-preserved c).In-Some (told (goal.at.loop-p-preserved c).After-or_else-named) in
+    let further : get_or c.loop-p.cut c.in-Some.p 0 < count (run_in c.args.run.now) c.in-Some.p = omega (arith, found.counted, c.count_of.ensures, c.if-count_of-at.false) in (
+      search_move c.requires.0 c.loop-p.cut c.loop-p.invariant.0 _ found.there found.must further,
       c.bring_forward.ensures,
-      c.bring_forward.auto.counts ∙ c.loop-cut.invariant.2,
-      c.bring_forward.auto.unsent ∙ c.loop-cut.invariant.3,
+      c.bring_forward.auto.counts ∙ c.loop-p.invariant.2,
+      c.bring_forward.auto.unsent ∙ c.loop-p.invariant.3,
     )
-
-pub shape_of-cut-in_default : goal.shape_of-cut-in_default
-shape_of-cut-in_default c =
-    let kept-long : length c.loop-cut.cut ≡ length c.args.cut.now = c.loop-cut.invariant.0.is_cut.size ∙ sym c.requires.1.is_cut.size in
-    kept-long
-
-pub shape_of-counts-in_default : goal.shape_of-counts-in_default
-shape_of-counts-in_default c = c.loop-cut.invariant.2
-
-pub shape_of-unsent-in_default : goal.shape_of-unsent-in_default
-shape_of-unsent-in_default c = c.loop-cut.invariant.3
 
 -- nobody is named: found
 pub returns-in_default : goal.returns-in_default
 returns-in_default c =
-    let who = told (goal.at.returns-in_default c).Joined-behind in
-    search_found c.requires.0 c.loop-cut.cut c.loop-cut.invariant.0 c.in_default.is who
-
-pub shape_of-cut-then-count_of-at : goal.shape_of-cut-then-count_of-at
-shape_of-cut-then-count_of-at c =
-    let kept-long : length c.loop-cut.cut ≡ length c.args.cut.now = c.loop-cut.invariant.0.is_cut.size ∙ sym c.requires.1.is_cut.size in
-    kept-long
-
-pub shape_of-counts-then-count_of-at : goal.shape_of-counts-then-count_of-at
-shape_of-counts-then-count_of-at c = c.loop-cut.invariant.2
-
-pub shape_of-unsent-then-count_of-at : goal.shape_of-unsent-then-count_of-at
-shape_of-unsent-then-count_of-at c = c.loop-cut.invariant.3
+    let who = told (goal.at.returns-in_default c).After-or_else-named in
+    search_found c.requires.0 c.loop-p.cut c.loop-p.invariant.0 c.in_default.is who
 
 -- a history runs out: none
 pub returns-then-count_of-at : goal.returns-then-count_of-at
 returns-then-count_of-at c =
-    let who = told (goal.at.returns-then-count_of-at c).Joined-behind in
-    let found = mover (goal.at.returns-then-count_of-at c).In-Process-named who in
-    search_none c.requires.0 c.loop-cut.cut c.loop-cut.invariant.0 _ found.there found.must (omega (arith, found.counted, c.count_of.ensures, c.if-count_of-at.true))
+    let found = mover (goal.at.returns-then-count_of-at c).In-Some (told (goal.at.returns-then-count_of-at c).After-or_else-named) in
+    search_none c.requires.0 c.loop-p.cut c.loop-p.invariant.0 _ found.there found.must (omega (arith, found.counted, c.count_of.ensures, c.if-count_of-at.true))

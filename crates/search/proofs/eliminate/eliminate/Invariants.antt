@@ -10,9 +10,9 @@ use Rattle.kept.specs.Kept.{CountsKept}
 use Rattle.search.specs.Search.{LowestCut}
 use Rattle.search.proofs.eliminate.eliminate.Given as goal
 
-abbrev pub invariant-loop-cut : goal.invariant-loop-cut
-invariant-loop-cut l =
+abbrev pub invariant-loop-p : goal.invariant-loop-p
+invariant-loop-p l =
     LowestCut (run_in l.run) (clauses_of l.cond l.clauses) l.cut × CountsKept (run_in l.run) l.cut l.counts l.unsent × (length l.counts ≡ length l.initial.counts) × (length l.unsent ≡ length l.initial.unsent)
 
-abbrev pub decreases-loop-cut : goal.decreases-loop-cut
-decreases-loop-cut l = 4096 - total l.cut
+abbrev pub decreases-loop-p : goal.decreases-loop-p
+decreases-loop-p l = 4096 - total l.cut

@@ -1,19 +1,18 @@
 -- `first_behind` meets its contract: whoever is named has to move, by the law of a false clause or of the clocks.
-use Rattle.search.proofs.Moving.{moved_clause, moved_clocks, in_table}
+use Rattle.std.proofs.Common.{rules, ◌≡◌, MatchOption, Some}
+use Rattle.run.specs.Index.{clock_in}
+use Rattle.cut.specs.Clocks.{too_low, InTable}
+use Rattle.search.proofs.Moving.{moved_first, in_table}
 use Rattle.search.proofs.eliminate.first_behind.Goals as goal
 
-pub first_local-local-requires : goal.first_local-local-requires
-first_local-local-requires c = let r = c.requires in (r.0, r.1.is_cut)
-
-pub returns-in_default : goal.returns-in_default
-returns-in_default c =
+pub or_else-requires : goal.or_else-requires
+or_else-requires c =
     let r = c.requires in
-    moved_clause r.0 _ r.1 c.in_default.is c.first_local-local.ensures
-
-pub too_low-requires : goal.too_low-requires
-too_low-requires c = let r = c.requires in (r.0.index.listed.long, in_table r.0 _ r.1)
+    let table : InTable c.args.cut.now = in_table r.0 _ r.1 in
+    search (rules, r.0.index.listed.long)
 
 pub returns : goal.returns
 returns c =
     let r = c.requires in
-    moved_clocks r.0 _ r.1 c.in-Nobody.is c.first_local-local.ensures c.too_low.ensures
+    let told : MatchOption c.first_local.result (c.or_else.result ≡ too_low (clock_in c.args.index.now) c.args.cut.now) (λ p. c.or_else.result ≡ Some p) = search rules in
+    moved_first r.0 _ r.1 c.first_local.ensures told

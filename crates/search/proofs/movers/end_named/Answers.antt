@@ -1,9 +1,8 @@
 -- `end_named` meets its contract: the test says which of the channel's ends, which are processes of the run.
 use native.Mathlib.Omega.{arith}
 use mathlib.Core.Path.{sym, ◌∙◌}
-use Rattle.run.specs.Said.{run_in}
 use Rattle.run.proofs.Listed.{ok}
-use Rattle.transit.proofs.Between.{Ends, ends_of}
+use Rattle.transit.proofs.Between.{ends_of}
 use Rattle.search.proofs.Tests.{names_sender, names_receiver, test_says}
 use Rattle.search.proofs.movers.end_named.Goals as goal
 
@@ -12,13 +11,11 @@ channel_at-ends-requires c = let r = c.requires in omega (arith, r.1.channel, (o
 
 pub returns-in-Sender : goal.returns-in-Sender
 returns-in-Sender c =
-    let ends : Ends (run_in c.args.run.now) c.args.clause.channel c.channel_at-ends.result = let r = c.requires in ends_of _ r.0 r.1.channel c.channel_at-ends.ensures in
-    names_sender (ends) (sym c.who_moves-mover.ensures ∙ c.in-Sender.is)
+    names_sender (ends_of _ c.requires.0 c.requires.1.channel c.channel_at-ends.ensures) (sym c.who_moves-mover.ensures ∙ c.in-Sender.is)
 
 pub returns-in-Receiver : goal.returns-in-Receiver
 returns-in-Receiver c =
-    let ends : Ends (run_in c.args.run.now) c.args.clause.channel c.channel_at-ends.result = let r = c.requires in ends_of _ r.0 r.1.channel c.channel_at-ends.ensures in
-    names_receiver (ends) (sym c.who_moves-mover.ensures ∙ c.in-Receiver.is)
+    names_receiver (ends_of _ c.requires.0 c.requires.1.channel c.channel_at-ends.ensures) (sym c.who_moves-mover.ensures ∙ c.in-Receiver.is)
 
 pub returns-in-NotLinear : goal.returns-in-NotLinear
 returns-in-NotLinear c =

@@ -9,18 +9,25 @@ use Rattle.run.proofs.Listed.{processes_are}
 use mir.Syntax.{w32}
 use mir.Val.{to_z, of_z}
 use Rattle.search.proofs.Tests.{local_true, local-false}
+use mathlib.Core.List.{List}
+use Prim.Native.Nat.{ℕ}
+use Rattle.record.specs.Record.{head_of}
+use Rattle.run.specs.Index.{IndexHolds}
+use Rattle.condition.specs.declared.Local.{Local}
+use Rattle.condition.specs.Known.{LocalKnown}
 use Rattle.search.proofs.movers.local_mover.Goals as goal
+
+in_run : {s ix : List ℕ} {l : Local} → IndexHolds s ix → LocalKnown (head_of s) l → l.process < processes (run_in s)
+in_run w k = omega (arith, k.process, processes_are _ w.listed.read)
 
 pub bounds-cut-p : goal.bounds-cut-p
 bounds-cut-p c =
-    let process : c.args.clause.process < processes (run_in c.args.run.now) = let r = c.requires in omega (arith, r.2.process, processes_are _ r.0.listed.read) in
-    omega (arith, c.requires.1.size, process)
+    omega (arith, c.requires.1.size, in_run c.requires.0 c.requires.2)
 
 pub local_holds-requires : goal.local_holds-requires
 local_holds-requires c =
-    let process : c.args.clause.process < processes (run_in c.args.run.now) = let r = c.requires in omega (arith, r.2.process, processes_are _ r.0.listed.read) in
     let r = c.requires in
-    (r.0, r.1.states _ (process), r.2.value)
+    (r.0, r.1.states _ (in_run r.0 r.2), r.2.value)
 
 pub returns-then-local_holds : goal.returns-then-local_holds
 returns-then-local_holds c =
@@ -29,6 +36,5 @@ returns-then-local_holds c =
 
 pub returns : goal.returns
 returns c =
-    let process : c.args.clause.process < processes (run_in c.args.run.now) = let r = c.requires in omega (arith, r.2.process, processes_are _ r.0.listed.read) in
     let constant : to_z w32 (of_z w32 c.args.clause.constant) ≡ c.args.clause.constant = search rules in
-    local-false _ _ _ _ _ _ (process) (constant) (sym c.local_holds.ensures ∙ c.if-local_holds.false)
+    local-false _ _ _ _ _ _ (in_run c.requires.0 c.requires.2) (constant) (sym c.local_holds.ensures ∙ c.if-local_holds.false)

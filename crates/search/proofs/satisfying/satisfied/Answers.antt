@@ -1,14 +1,21 @@
 -- `satisfied` meets its contract: a clause that is false, or a clock that is too far, denies it; where there is neither, the cut satisfies. The channel
 -- clauses are asked beside the counts that the listing wrote.
 use native.Mathlib.Omega.{arith}
-use mathlib.Core.Path.{refl, ap, ◌∙◌}
-use mathlib.Core.Bool.{not}
+use mathlib.Core.Path.{◌≡◌, refl, sym, ap, ◌∙◌}
+use mathlib.Core.Logic.{◌↔◌}
+use mathlib.Core.Bool.{Bool, true, false, not}
+use Rattle.std.specs.Prelude.{Option, Some, None, is_some}
 use mathlib.Core.List.{List}
 use Prim.Native.Nat.{ℕ, ◌≤◌}
 use lib.ListN.{length}
 use Rattle.model.specs.Run.{Run}
 use Rattle.model.specs.Cut.{in_transit}
+use Rattle.model.specs.Clause.{Satisfies}
 use Rattle.model.proofs.Numbers.{never, denied}
+use Rattle.record.specs.Record.{head_of}
+use Rattle.run.specs.Said.{run_in}
+use Rattle.condition.specs.Clauses.{clauses_of}
+use Rattle.search.specs.Search.{Given, KindTested}
 use Rattle.states.proofs.Tabulate.{tabulate-at, tabulate-length}
 use Rattle.run.proofs.Listed.{ok, channels_are}
 use Rattle.kept.specs.Kept.{EachCounted}
@@ -25,11 +32,25 @@ each_listed r cut h w = record {
   each = λ c g. w.front c (omega (arith, tabulate-length (length r.channels) (λ c. length (in_transit r cut c)))) ∙ tabulate-at _ _ c 0 g;
 }
 
-pub first_local-local-requires : goal.first_local-local-requires
-first_local-local-requires c = let r = c.requires in (r.0, r.1)
+holds_nobody : (b : Option ℕ) → is_some b ≡ false → b ≡ None
+holds_nobody None e = refl
+holds_nobody (Some p) e = never (cc)
 
-pub returns-in_default : goal.returns-in_default
-returns-in_default c = (λ e. never (cc), λ w. absurd (kind_fails c.requires.0 _ c.in_default.is c.first_local-local.ensures w))
+module _ {s c ix qs : List ℕ} (g : Given s c ix qs) (cut : List ℕ) where
+  somebody : (b : Option ℕ) {locals : Bool} → is_some b ≡ true → KindTested (run_in s) (clauses_of c qs) cut locals b → ¬ Satisfies (run_in s) (clauses_of c qs) cut
+  somebody None e t w = never (cc)
+  somebody (Some p) e t w = kind_fails g cut refl t w
+
+  -- nobody is named last exactly where the cut satisfies
+  last : (b : Option ℕ) (t : Bool) → is_some b ≡ not t → KindTested (run_in s) (clauses_of c qs) cut false b
+      → (b ≡ None → Satisfies (run_in s) (clauses_of c qs) cut) → (t ≡ true) ↔ Satisfies (run_in s) (clauses_of c qs) cut
+  last None true e k w = (λ z. w refl, λ z. refl)
+  last None false e k w = never (cc)
+  last (Some p) true e k w = never (cc)
+  last (Some p) false e k w = (λ z. never (cc), λ z. absurd (kind_fails g cut refl k z))
+
+pub returns-then-is_some : goal.returns-then-is_some
+returns-then-is_some c = (λ e. never (cc), λ w. absurd (somebody c.requires.0 _ _ (sym c.is_some.ensures ∙ c.if-is_some.true) c.first_local.ensures w))
 
 pub consistent-requires : goal.consistent-requires
 consistent-requires c = let r = c.requires in (r.0.index.listed.long, cut_in_table r.0.index _ r.1)
@@ -40,26 +61,27 @@ returns-then-not-consistent c =
     let told = c.consistent.ensures _ r.0.index.clocks r.1 in
     (λ e. never (cc), λ w. absurd (denied (ap not c.if-not-consistent.true) (told.1 w.consistent)))
 
+sixteen : {s c ix qs : List ℕ} → Given s c ix qs → {n : ℕ} → n ≡ (head_of s).channels → n ≤ 16
+sixteen g e = omega (arith, e, (ok _ g.index.listed.read).head.channels)
+
 pub list_channels-requires : goal.list_channels-requires
 list_channels-requires c =
-    let sixteen : c.args.channels ≤ 16 = let r = c.requires in omega (arith, r.2, (ok _ r.0.index.listed.read).head.channels) in
     let r = c.requires in
-    let few = sixteen in
+    let few = sixteen r.0 r.2 in
     record { index = r.0.index; is_cut = r.1; all = r.2; room = record { counts = omega (arith, few); stamps = omega (arith, few) } }
 
-pub first_channel-channel-requires : goal.first_channel-channel-requires
-first_channel-channel-requires c =
-    let sixteen : c.args.channels ≤ 16 = let r = c.requires in omega (arith, r.2, (ok _ r.0.index.listed.read).head.channels) in
+pub first_channel-requires : goal.first_channel-requires
+first_channel-requires c =
     let r = c.requires in
     let are = channels_are _ r.0.index.listed.read in
-    (r.0, record { index = r.0.index; is_cut = r.1; each = each_listed _ _ (omega (arith, sixteen, r.2, are)) c.list_channels.ensures.0 })
-
-pub returns-in_default-channel : goal.returns-in_default-channel
-returns-in_default-channel c = (λ e. never (cc), λ w. absurd (kind_fails c.requires.0 _ c.in_default-channel.is c.first_channel-channel.ensures w))
+    (r.0, record { index = r.0.index; is_cut = r.1; each = each_listed _ _ (omega (arith, sixteen r.0 r.2, r.2, are)) c.list_channels.ensures.0 })
 
 pub returns : goal.returns
 returns c =
     let r = c.requires in
     let told = c.consistent.ensures _ r.0.index.clocks r.1 in
-    let every = both_kinds r.0 _ c.in-Nobody.is c.first_local-local.ensures c.in-Nobody-channel.is c.first_channel-channel.ensures in
-    (λ e. record { is_cut = r.1; consistent = told.0 (c.if-not-consistent.false); clauses = every }, λ w. refl)
+    last r.0 _ _ _ c.is_none.ensures c.first_channel.ensures (λ none. record {
+      is_cut = r.1;
+      consistent = told.0 c.if-not-consistent.false;
+      clauses = both_kinds r.0 _ (holds_nobody _ (sym c.is_some.ensures ∙ c.if-is_some.false)) c.first_local.ensures none c.first_channel.ensures;
+    })

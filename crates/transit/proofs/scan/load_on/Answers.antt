@@ -1,27 +1,41 @@
--- `load_on` meets its contract: where nothing is sought the scan sees everything.
-use borrow.Author.Rules.{rules}
-use mathlib.Core.Path.{◌≡◌, refl, sym, subst, ◌∙◌}
-use mathlib.Core.Bool.{false}
-use mathlib.Core.List.{List, [], ◌∷◌}
-use mir.Syntax.{w32}
-use mir.Val.{SFits}
-use mir.Facts.{to_z-of_z}
-use Rattle.model.specs.declared.Message.{Message}
-use Rattle.model.specs.Clause.{some_of}
-use Rattle.model.specs.Cut.{in_transit}
+-- `load_on` meets its contract: a load with each state more, up to the sender's state at the cut.
+use native.Mathlib.Omega.{arith}
+use mathlib.Core.Path.{◌≡◌, ap, subst, ◌∙◌, refl}
+use Rattle.model.specs.Cut.{between}
 use Rattle.run.specs.Said.{run_in}
-use Rattle.transit.specs.Load.{SoFar, is_sought}
-use Rattle.transit.proofs.Between.{in_transit_few}
+use Rattle.transit.specs.Load.{LoadOf}
+use Rattle.transit.specs.Load.LoadOf.{empty}
+use Rattle.transit.specs.Waiting.{inside}
+use Rattle.transit.proofs.Between.{between_few, in_transit_few, next_between, span_channel, span_state, span_sent, span_transit}
+use Rattle.transit.proofs.Loads.{load_few}
+use Rattle.transit.proofs.Partner.{inside-held}
+use Rattle.transit.proofs.Stored.{states_few}
 use Rattle.transit.proofs.scan.load_on.Goals as goal
 
-unmet : (ms : List Message) → some_of (λ m. false) ms ≡ false
-unmet [] = refl
-unmet (m ∷ ms) = unmet ms
+pub loop-k-init : goal.loop-k-init
+unfolding between
+loop-k-init c = empty refl
+
+pub waits-requires : goal.waits-requires
+waits-requires c =
+    let r = c.requires in
+    let e = c.span_of-span.ensures in
+    (r.index, span_channel r e, span_state r e (omega arith) (omega (arith, c.loop-k-test.true)))
+
+pub load_with-load-requires : goal.load_with-load-requires
+load_with-load-requires c =
+    let few = states_few c.requires.index (span_sent c.requires c.span_of-span.ensures) in
+    load_few c.loop-k.invariant (omega (arith, few, c.loop-k-test.true, between_few (run_in c.args.run.now) c.span_of-span.result.channel c.span_of-span.result.received c.loop-k.k))
+
+pub loop-k-preserved : goal.loop-k-preserved
+loop-k-preserved c =
+    let held = ap inside c.waits.ensures ∙ inside-held _ in
+    rw next_between (rw held at (c.load_with-load.ensures _ c.loop-k.invariant))
 
 pub returns : goal.returns
-unfolding is_sought
 returns c =
-    let a = c.args in
-    let whole = c.scan-seen.ensures.met ∙ unmet (in_transit (run_in a.run.now) a.cut.now a.channel) in
-    let fits : SFits w32 c.scan-seen.result.lowest = search rules in
-    (c.load_of.ensures _ (c.scan-seen.ensures.count whole) (subst (SoFar _) (sym (to_z-of_z fits)) (c.scan-seen.ensures.lowest whole)), in_transit_few c.requires)
+    let span = c.span_of-span.result in
+    let all : c.loop-k.k ≡ span.sent = omega (arith, c.loop-k.auto.k-end, c.loop-k-test.false) in (
+      subst (λ ms. LoadOf ms c.loop-k.load) (ap (λ k. between (run_in c.args.run.now) span.channel k span.received) all ∙ span_transit c.requires c.span_of-span.ensures) c.loop-k.invariant,
+      in_transit_few c.requires,
+    )

@@ -1,25 +1,28 @@
--- `sent_on` meets its contract: by the event, and of a send by its channel.
-use borrow.Author.Tests.{eq-eqb, ne_eqb}
-use mathlib.Core.Path.{refl}
+use mathlib.Core.Path.{◌≡◌, refl}
+use mathlib.Core.Bool.{Bool, true, false, cond}
+use mathlib.Core.Option.{some, none}
+use Rattle.std.specs.Bool.{then_some}
+use Rattle.model.specs.declared.Event.{Event}
+use Rattle.model.specs.declared.Event.TheVariants.{Start, Internal, Send, Receive}
+use Rattle.model.specs.declared.Message.{Message}
+use Rattle.model.specs.Run.{sending}
 use Rattle.transit.specs.Waiting.{as_held}
 use Rattle.transit.proofs.sender.sent_on.Goals as goal
 
-pub returns-in-Start : goal.returns-in-Start
+held_if : (t : Bool) (m : Message) → then_some t m ≡ as_held (cond t (some m) none)
 unfolding as_held
-returns-in-Start c = rw c.in-Start.is refl
+held_if true m = refl
+held_if false m = refl
 
-pub returns-in-Internal : goal.returns-in-Internal
-unfolding as_held
-returns-in-Internal c = rw c.in-Internal.is refl
+not_sent : (e : Event) → ((m : Message) → e ≡ Send m → ⊥) → sending e ≡ none
+not_sent Start n = refl
+not_sent Internal n = refl
+not_sent (Send m) n = absurd (n m refl)
+not_sent (Receive m) n = refl
 
-pub returns-then-message-channel : goal.returns-then-message-channel
-unfolding as_held
-returns-then-message-channel c = rw (c.in-Send.is, eq-eqb _ _ c.if-message-channel.true) refl
+pub returns-in-Send : goal.returns-in-Send
+returns-in-Send c = rw (c.then_some.ensures, c.in-Send.is) (held_if _ _)
 
-pub returns-else-message-channel : goal.returns-else-message-channel
+pub returns-in_default : goal.returns-in_default
 unfolding as_held
-returns-else-message-channel c = rw (c.in-Send.is, ne_eqb _ _ c.if-message-channel.false) refl
-
-pub returns-in-Receive : goal.returns-in-Receive
-unfolding as_held
-returns-in-Receive c = rw c.in-Receive.is refl
+returns-in_default c = rw (not_sent _ c.in_default.not-Send) refl
