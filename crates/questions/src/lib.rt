@@ -2,30 +2,14 @@
 #![tactic(auto)]
 
 pub mod consistency;
+mod given;
 pub mod listing;
 pub mod messages;
 pub mod satisfaction;
 
-use record::Refusal;
-
+// What is in transit on a channel that isn't empty: so many messages, and the lowest of their stamps.
 #[derive(Clone, Copy)]
-pub enum Verdict {
-    Yes,
-    No,
-    Refused(Refusal),
-}
-
-// What is in transit on a channel: nothing, or so many messages with the lowest of their stamps.
-#[derive(Clone, Copy)]
-pub enum Count {
-    Empty,
-    Messages(usize, i32),
-    Refused(Refusal),
-}
-
-// Whether the number of messages on each channel, and the lowest of their stamps, stand in the lent places.
-#[derive(Clone, Copy)]
-pub enum Counts {
-    Counted,
-    Refused(Refusal),
+pub struct Load {
+    pub count: usize,
+    pub lowest: i32,
 }
