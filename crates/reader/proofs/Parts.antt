@@ -1,7 +1,7 @@
--- The part shown lies within its file; the empty front of a slice is the front part.
-use mathlib.Core.Path.{◌≡◌, refl, ap, ◌∙◌}
+-- The part shown lies within its file.
+use mathlib.Core.Path.{◌≡◌, refl}
 use mathlib.Core.Bool.{Bool, true, false, cond, ◌||◌}
-use mathlib.Core.List.{List, []}
+use mathlib.Core.List.{List}
 use Prim.Native.Nat.{ℕ, ◌+◌, ◌-◌, ◌≤◌, min}
 use native.Mathlib.Omega.{arith}
 use lib.Dec.{ltb}
@@ -13,7 +13,7 @@ use Rattle.record.specs.declared.File.TheVariants.{Run, Condition}
 use Rattle.record.specs.declared.Refusal.{Refusal}
 use Rattle.reader.specs.declared.Part.{Part}
 use Rattle.reader.specs.Inner.{has_record}
-use Rattle.reader.specs.Shown.{file_of, shown_count, front, part_of, IsPart}
+use Rattle.reader.specs.Shown.{file_of, shown_count, part_of}
 
 -- no more is shown than is left
 pub shown_within : (s : List ℕ) (at : ℕ) (after : Bool) → shown_count s at after ≤ length s - at
@@ -38,8 +38,3 @@ module _ (run condition : Bor (List ℕ)) {p q : Part} {b : Bor (List ℕ)} (e :
           let w = part_of run.now condition.now x in w.place + w.count ≤ length (file_of w.file run.now condition.now)
       go true h = rw (h) (omega (arith, shown_within (file_of x.file run.now condition.now) x.place x.after))
       go false h = rw (h) (omega arith)
-
-pub front_is : (run condition : Bor (List ℕ)) {r : Bor (List ℕ)} → r.ref_ptr ≡ run.ref_ptr → r.now ≡ [] → IsPart run condition front r
-front_is run condition l n =
-    let k : run.ref_ptr.1 ≡ 0 + run.ref_ptr.1 = omega arith in
-    record { begins = l ∙ ap (λ m. (run.ref_ptr.0, m)) k; bytes = n }
