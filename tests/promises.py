@@ -8,6 +8,7 @@ the theorem that any two answers are equal. Every other one stands among the exc
 from __future__ import annotations
 
 import re
+import textwrap
 from pathlib import Path
 from typing import Iterator, NamedTuple
 
@@ -16,6 +17,8 @@ from reporting import Check
 DOCUMENT = "docs/CONTRACTS.md"
 CALLS, EXCEPTIONS = "# Contracts\n", "\n## Exceptions\n"
 PUBLIC = re.compile(r"(?ms)^pub fn (\w+)(.*?)(?:^\{| \{$)")
+# The methods of a type: a block of its own, whose functions stand one step further in.
+METHODS = re.compile(r"(?ms)^impl(?:<[^>]*>)? (\w+)[^\n]*\{\n(.*?)^\}")
 # A clause has a name where there are two of its kind.
 ASKS = re.compile(r"\brequires(?: \w+)?\s*\{")
 EQUATION = re.compile(r"\bensures(?: \w+)?\s*\{\s*result\s+≡\s")
@@ -41,8 +44,12 @@ def public_calls(root: Path) -> Iterator[Call]:
         crate = library.parts[-3]
         for path in sorted(library.parent.glob("*.rt")):
             module = crate if path == library else f"{crate}::{path.stem}"
-            for name, text in PUBLIC.findall(path.read_text("utf-8")):
+            code = path.read_text("utf-8")
+            for name, text in PUBLIC.findall(code):
                 yield Call(f"{module}::{name}", text)
+            for owner, block in METHODS.findall(code):
+                for name, text in PUBLIC.findall(textwrap.dedent(block)):
+                    yield Call(f"{module}::{owner}::{name}", text)
 
 
 # What the document lists

@@ -188,6 +188,14 @@ pub fn asks(n: u16) -> u16
 
 pub fn says(n: u16) {
 }
+
+impl Reader {
+    pub fn place(self) -> usize
+        ensures { result ≡ self.place }
+    {
+        self.place
+    }
+}
 """,
         LAWS: "pub lent_one : ℕ\n",
         LISTING: """\
@@ -210,6 +218,8 @@ pub fn says(n: u16) {
         Change("an exception that asks nothing", LIBRARY, "    requires { n < 8 }\n", "",
                ("it is listed, and its contract is whole",)),
         Change("less than an equation", LIBRARY, "{ result ≡ n }", "{ result ≤ n }",
+               ("its contract isn't whole, and it isn't listed",)),
+        Change("a method with less than an equation", LIBRARY, "{ result ≡ self.place }", "{ result ≤ self.place }",
                ("its contract isn't whole, and it isn't listed",)),
         Change("an exception that is no function", LISTING, "`says`", "`says`, `sings`",
                ("small::sings is no public call",)),

@@ -1,14 +1,11 @@
 -- The lines of an answer, as bytes.
-use Rattle.std.specs.Prelude.{List, [], ◌∷◌, ◌++◌, ℕ, zero, suc, ℤ}
+use Rattle.std.specs.Prelude.{Bool, true, false, List, [], ◌∷◌, ◌++◌, ℕ, zero, suc, ℤ, Option, Some, None, Result, Ok, Err}
 use Rattle.record.specs.declared.File.{File}
 use Rattle.record.specs.declared.File.TheVariants.{Run, Condition}
 use Rattle.record.specs.declared.Refusal.{Refusal}
-use Rattle.checker.specs.declared.Answer.{Answer}
-use Rattle.checker.specs.declared.Answer.TheVariants as A
-use Rattle.questions.specs.declared.Verdict.{Verdict}
-use Rattle.questions.specs.declared.Verdict.TheVariants as W
-use Rattle.questions.specs.declared.Count.{Count}
-use Rattle.questions.specs.declared.Count.TheVariants as C
+use Rattle.search.specs.declared.Outcome.{Outcome}
+use Rattle.search.specs.declared.Outcome.TheVariants as O
+use Rattle.transit.specs.declared.Load.{Load}
 use Rattle.writing.specs.Text.{bytes, signed, spaced, pair_line, row_lines}
 
 unfoldable pub refused_word : File → List ℕ
@@ -37,21 +34,21 @@ channel_lines i (n ∷ counts) (x ∷ stamps) = channel_line i n x ++ channel_li
 unfoldable pub found_lines : List ℕ → List ℕ → List ℤ → List ℕ
 found_lines cut counts stamps = bytes "found\n" ++ row_lines (bytes "state") 0 cut ++ channel_lines 0 counts stamps
 
-unfoldable pub answer_lines : Answer → List ℕ → List ℕ → List ℤ → List ℕ
-answer_lines A.Found cut counts stamps = found_lines cut counts stamps
-answer_lines A.None cut counts stamps = bytes "none\n"
-answer_lines (A.Refused x) cut counts stamps = refused_line x
+unfoldable pub answer_lines : Result Outcome Refusal → List ℕ → List ℕ → List ℤ → List ℕ
+answer_lines (Ok O.Found) cut counts stamps = found_lines cut counts stamps
+answer_lines (Ok O.None) cut counts stamps = bytes "none\n"
+answer_lines (Err x) cut counts stamps = refused_line x
 
-unfoldable pub verdict_lines : Verdict → List ℕ
-verdict_lines W.Yes = bytes "yes\n"
-verdict_lines W.No = bytes "no\n"
-verdict_lines (W.Refused x) = refused_line x
+unfoldable pub verdict_lines : Result Bool Refusal → List ℕ
+verdict_lines (Ok true) = bytes "yes\n"
+verdict_lines (Ok false) = bytes "no\n"
+verdict_lines (Err x) = refused_line x
 
 -- how many messages are on a channel, and the lowest stamp among them
 unfoldable pub count_line : ℕ → ℤ → List ℕ
 count_line n x = bytes "count" ++ spaced n ++ bytes " " ++ signed x ++ bytes "\n"
 
-unfoldable pub count_lines : Count → List ℕ
-count_lines C.Empty = bytes "empty\n"
-count_lines (C.Messages n x) = count_line n x
-count_lines (C.Refused x) = refused_line x
+unfoldable pub count_lines : Result (Option Load) Refusal → List ℕ
+count_lines (Ok None) = bytes "empty\n"
+count_lines (Ok (Some m)) = count_line m.count m.lowest
+count_lines (Err x) = refused_line x

@@ -2,10 +2,10 @@
 ghost use Rattle.writing.specs.Stored.{Put};
 ghost use Rattle.answers.specs.Lines.{channel_line, channel_lines, count_line, stamp_word};
 
-use crate::lesser;
 use writing::{signed, spaced, text};
 
 // An empty channel has no stamp.
+#[tactic(auto, using(crate::proofs::ChannelLines::stamp_of_some), unfolding(crate::specs::Lines::stamp_word, writing::specs::Text::bytes))]
 fn stamp_word(count: u16, stamp: i32, at: usize, buffer: &mut [u8]) -> usize
     ensures { Put (stamp_word count stamp) at result buffer.old buffer.new }
 {
@@ -42,12 +42,10 @@ pub(crate) fn count_line(count: usize, stamp: i32, buffer: &mut [u8]) -> usize
 pub(crate) fn channel_lines(counts: &[u16], stamps: &[i32], at: usize, buffer: &mut [u8]) -> usize
     ensures { Put (channel_lines 0 counts.now stamps.now) at result buffer.old buffer.new }
 {
-    let n = lesser(counts.len(), stamps.len());
+    let n = counts.len().min(stamps.len());
     let mut next = at;
-    let mut i: usize = 0;
-    while i < n {
+    for i in 0..n {
         next = channel_line(i, counts[i], stamps[i], next, buffer);
-        i += 1;
     }
     next
 }

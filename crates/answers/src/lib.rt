@@ -4,24 +4,18 @@
 
 mod channels;
 
-ghost use Rattle.std.specs.Prelude.{min, ◌≡◌, length};
+ghost use Rattle.std.specs.Prelude.{min, ◌≡◌, List, ℕ, length};
 ghost use Rattle.writing.specs.Stored.{Put};
 ghost use Rattle.answers.specs.Lines.{answer_lines, count_lines, found_lines, refused_line, verdict_lines};
 ghost use Rattle.answers.specs.Made.{MadeOf};
 
 use channels::{channel_lines, count_line};
-use checker::Answer;
-use questions::{Count, Verdict};
+use questions::Load;
 use record::{File, Refusal};
+use search::Outcome;
 use writing::{pair_line, row_lines, text};
 
-// How many bytes the lines have that stand at the front of the buffer, or that it is too short and as it was.
-#[derive(Clone, Copy)]
-pub enum Made {
-    Lines(usize),
-    TooShort,
-}
-
+#[tactic(auto, unfolding(crate::specs::Lines::refused_line, crate::specs::Lines::refused_word, writing::specs::Text::bytes))]
 fn refused(refusal: Refusal, buffer: &mut [u8]) -> usize
     ensures { Put (refused_line refusal) 0 result buffer.old buffer.new }
 {
@@ -42,8 +36,9 @@ fn found(cut: &[u16], counts: &[u16], stamps: &[i32], buffer: &mut [u8]) -> usiz
     channel_lines(counts, stamps, channels, buffer)
 }
 
+#[tactic(auto, unfolding(crate::specs::Lines::answer_lines, writing::specs::Text::bytes))]
 fn put_answer(
-    answer: Answer,
+    answer: Result<Outcome, Refusal>,
     cut: &[u16],
     counts: &[u16],
     stamps: &[i32],
@@ -52,84 +47,76 @@ fn put_answer(
     ensures { Put (answer_lines answer cut.now counts.now stamps.now) 0 result buffer.old buffer.new }
 {
     match answer {
-        Answer::Found => found(cut, counts, stamps, buffer),
-        Answer::None => text(b"none\n", 0, buffer),
-        Answer::Refused(refusal) => refused(refusal, buffer),
+        Ok(Outcome::Found) => found(cut, counts, stamps, buffer),
+        Ok(Outcome::None) => text(b"none\n", 0, buffer),
+        Err(refusal) => refused(refusal, buffer),
     }
 }
 
-fn put_verdict(verdict: Verdict, buffer: &mut [u8]) -> usize
+#[tactic(auto, unfolding(crate::specs::Lines::verdict_lines, writing::specs::Text::bytes))]
+fn put_verdict(verdict: Result<bool, Refusal>, buffer: &mut [u8]) -> usize
     ensures { Put (verdict_lines verdict) 0 result buffer.old buffer.new }
 {
     match verdict {
-        Verdict::Yes => text(b"yes\n", 0, buffer),
-        Verdict::No => text(b"no\n", 0, buffer),
-        Verdict::Refused(refusal) => refused(refusal, buffer),
+        Ok(true) => text(b"yes\n", 0, buffer),
+        Ok(false) => text(b"no\n", 0, buffer),
+        Err(refusal) => refused(refusal, buffer),
     }
 }
 
-fn put_count(count: Count, buffer: &mut [u8]) -> usize
+#[tactic(auto, unfolding(crate::specs::Lines::count_lines, writing::specs::Text::bytes))]
+fn put_count(count: Result<Option<Load>, Refusal>, buffer: &mut [u8]) -> usize
     ensures { Put (count_lines count) 0 result buffer.old buffer.new }
 {
     match count {
-        Count::Empty => text(b"empty\n", 0, buffer),
-        Count::Messages(n, stamp) => count_line(n, stamp, buffer),
-        Count::Refused(refusal) => refused(refusal, buffer),
+        Ok(None) => text(b"empty\n", 0, buffer),
+        Ok(Some(load)) => count_line(load.count, load.lowest, buffer),
+        Err(refusal) => refused(refusal, buffer),
     }
+}
+
+// The lines that a call puts: how many bytes they have at the front of the buffer, or none where it is too short and as it was.
+fn made<F: Fn(&mut [u8]) -> usize>(put: F, buffer: &mut [u8]) -> Option<usize>
+    requires { F.IsAlwaysCallable put }
+    ensures { (lines : List ℕ) → ((b : _) (n : _) (b' : _) → F.post put b n b' → Put lines 0 n b.now b'.now) → MadeOf lines buffer.old buffer.new result }
+{
+    let mut nowhere = [0u8; 0];
+    let n = put(&mut nowhere);
+    if buffer.len() < n {
+        return None;
+    }
+    put(buffer);
+    Some(n)
 }
 
 // The answer of the search with the state of each process at the cut, and the number of messages on each channel there with the lowest stamp among them.
 pub fn answer(
-    answer: Answer,
+    answer: Result<Outcome, Refusal>,
     cut: &[u16],
     counts: &[u16],
     stamps: &[i32],
     buffer: &mut [u8],
-) -> Made
+) -> Option<usize>
     ensures { MadeOf (answer_lines answer cut.now counts.now stamps.now) buffer.old buffer.new result }
 {
-    let mut nowhere = [0u8; 0];
-    let n = put_answer(answer, cut, counts, stamps, &mut nowhere);
-    if buffer.len() < n {
-        return Made::TooShort;
-    }
-    put_answer(answer, cut, counts, stamps, buffer);
-    Made::Lines(n)
+    made(|room| put_answer(answer, cut, counts, stamps, room), buffer)
 }
 
-pub fn verdict(verdict: Verdict, buffer: &mut [u8]) -> Made
+pub fn verdict(verdict: Result<bool, Refusal>, buffer: &mut [u8]) -> Option<usize>
     ensures { MadeOf (verdict_lines verdict) buffer.old buffer.new result }
 {
-    let mut nowhere = [0u8; 0];
-    let n = put_verdict(verdict, &mut nowhere);
-    if buffer.len() < n {
-        return Made::TooShort;
-    }
-    put_verdict(verdict, buffer);
-    Made::Lines(n)
+    made(|room| put_verdict(verdict, room), buffer)
 }
 
-pub fn count(count: Count, buffer: &mut [u8]) -> Made
+pub fn count(count: Result<Option<Load>, Refusal>, buffer: &mut [u8]) -> Option<usize>
     ensures { MadeOf (count_lines count) buffer.old buffer.new result }
 {
-    let mut nowhere = [0u8; 0];
-    let n = put_count(count, &mut nowhere);
-    if buffer.len() < n {
-        return Made::TooShort;
-    }
-    put_count(count, buffer);
-    Made::Lines(n)
-}
-
-pub(crate) fn lesser(a: usize, b: usize) -> usize
-    ensures { result ≡ min a b }
-{
-    if a < b { a } else { b }
+    made(|room| put_count(count, room), buffer)
 }
 
 // How many numbers of a row stand there where n were to be written.
 pub fn filled(n: u16, row: &[u16]) -> usize
     ensures { result ≡ min n (length row.now) }
 {
-    lesser(n as usize, row.len())
+    (n as usize).min(row.len())
 }

@@ -1,11 +1,10 @@
 -- The bytes shown for an answer: those of the refused record, the run's empty front part where nothing is refused.
-use Rattle.std.specs.Prelude.{List, ℕ}
+use Rattle.std.specs.Prelude.{List, ℕ, Result, Ok, Err}
+use Rattle.record.specs.declared.Refusal.{Refusal}
 use Rattle.reader.specs.declared.Part.{Part}
 use Rattle.reader.specs.Shown.{front, part_of}
-use Rattle.checker.specs.declared.Answer.{Answer}
-use Rattle.checker.specs.declared.Answer.TheVariants.{Found, None, Refused}
+use Rattle.search.specs.declared.Outcome.{Outcome}
 
-abbrev pub part_for : List ℕ → List ℕ → Answer → Part
-part_for run condition Found = front
-part_for run condition None = front
-part_for run condition (Refused x) = part_of run condition x
+abbrev pub part_for : List ℕ → List ℕ → Result Outcome Refusal → Part
+part_for run condition (Ok o) = front
+part_for run condition (Err x) = part_of run condition x

@@ -5,13 +5,12 @@ ghost use Rattle.search.specs.Prepared.{Prepared};
 ghost use Rattle.checker.specs.Answered.{Answered, AnsweredListed};
 ghost use Rattle.checker.specs.Inner.{Searching};
 
-use crate::Answer;
 use condition::ConditionReading;
 use condition::pass::read_condition;
 use cut::listing::{list_channels, write};
 use judging::whole::judge_run;
 use record::reasons::{NO_ROOM, refusal_of};
-use record::{File, Head};
+use record::{File, Head, Refusal};
 use run::RunReading;
 use run::index::INDEX_SIZE;
 use search::Outcome;
@@ -25,16 +24,16 @@ fn search_in(
     clauses: &[u16],
     cut: &mut [u16],
     lent: &mut [u16],
-) -> Answer
+) -> Result<Outcome, Refusal>
     requires { Searching run.now cond.now index.now clauses.now cut.old lent.old }
     ensures { Answered run.now cond.now lent.old lent.new result }
 {
     let outcome = search(run, index, cond, clauses, cut);
     let Outcome::Found = outcome else {
-        return Answer::None;
+        return Ok(outcome);
     };
     write(cut, lent);
-    Answer::Found
+    Ok(outcome)
 }
 
 // 15 comes before the search.
@@ -45,27 +44,33 @@ fn search_for(
     clauses: &[u16],
     head: Head,
     lent: &mut [u16],
-) -> Answer
+) -> Result<Outcome, Refusal>
     requires { Told run.now index.now head × Prepared run.now cond.now index.now clauses.now }
     ensures { Answered run.now cond.now lent.old lent.new result }
 {
     let size = head.processes as usize;
     if lent.len() < size {
-        return Answer::Refused(refusal_of(File::Run, NO_ROOM, 0));
+        return Err(refusal_of(File::Run, NO_ROOM, 0));
     }
     let mut row = [1u16; 8];
     search_in(run, index, cond, clauses, &mut row[..size], lent)
 }
 
 // Beside an accepted run.
-fn with_condition(run: &[u8], index: &[u16], cond: &[u8], head: Head, lent: &mut [u16]) -> Answer
+fn with_condition(
+    run: &[u8],
+    index: &[u16],
+    cond: &[u8],
+    head: Head,
+    lent: &mut [u16],
+) -> Result<Outcome, Refusal>
     requires { Told run.now index.now head }
     ensures { Answered run.now cond.now lent.old lent.new result }
 {
     let mut clauses = [0u16; 32];
     let reading = read_condition(cond, head, &mut clauses);
     match reading {
-        ConditionReading::Refused(refusal) => Answer::Refused(refusal),
+        ConditionReading::Refused(refusal) => Err(refusal),
         ConditionReading::Accepted(count) => {
             let size = count as usize;
             search_for(run, index, cond, &clauses[..size], head, lent)
@@ -74,13 +79,13 @@ fn with_condition(run: &[u8], index: &[u16], cond: &[u8], head: Head, lent: &mut
 }
 
 // The first consistent cut at which every clause holds, into the first lent places.
-pub fn first_cut(run: &[u8], cond: &[u8], lent: &mut [u16]) -> Answer
+pub fn first_cut(run: &[u8], cond: &[u8], lent: &mut [u16]) -> Result<Outcome, Refusal>
     ensures { Answered run.now cond.now lent.old lent.new result }
 {
     let mut index = [0u16; INDEX_SIZE];
     let reading = judge_run(run, &mut index);
     match reading {
-        RunReading::Refused(refusal) => Answer::Refused(refusal),
+        RunReading::Refused(refusal) => Err(refusal),
         RunReading::Accepted(head) => with_condition(run, &index, cond, head, lent),
     }
 }
@@ -94,18 +99,18 @@ fn with_channels(
     lent: &mut [u16],
     counts: &mut [u16],
     stamps: &mut [i32],
-) -> Answer
+) -> Result<Outcome, Refusal>
     requires { Told run.now index.now head × Room head.channels counts.old stamps.old }
     ensures { AnsweredListed run.now cond.now lent.old lent.new
         counts.old counts.new stamps.old stamps.new result }
 {
-    let answer = with_condition(run, index, cond, head, lent);
-    let Answer::Found = answer else {
-        return answer;
+    let outcome = with_condition(run, index, cond, head, lent)?;
+    let Outcome::Found = outcome else {
+        return Ok(outcome);
     };
     let size = head.processes as usize;
     list_channels(run, index, &lent[..size], head.channels, counts, stamps);
-    Answer::Found
+    Ok(outcome)
 }
 
 // The same, where there may be none. With no place lent for the cut either, the answer is the condition's refusal or 15.
@@ -117,7 +122,7 @@ fn listed_for(
     lent: &mut [u16],
     counts: &mut [u16],
     stamps: &mut [i32],
-) -> Answer
+) -> Result<Outcome, Refusal>
     requires { Told run.now index.now head }
     ensures { AnsweredListed run.now cond.now lent.old lent.new
         counts.old counts.new stamps.old stamps.new result }
@@ -137,14 +142,14 @@ pub fn first_cut_listed(
     lent: &mut [u16],
     counts: &mut [u16],
     stamps: &mut [i32],
-) -> Answer
+) -> Result<Outcome, Refusal>
     ensures { AnsweredListed run.now cond.now lent.old lent.new
         counts.old counts.new stamps.old stamps.new result }
 {
     let mut index = [0u16; INDEX_SIZE];
     let reading = judge_run(run, &mut index);
     match reading {
-        RunReading::Refused(refusal) => Answer::Refused(refusal),
+        RunReading::Refused(refusal) => Err(refusal),
         RunReading::Accepted(head) => listed_for(run, &index, cond, head, lent, counts, stamps),
     }
 }

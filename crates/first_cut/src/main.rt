@@ -3,10 +3,10 @@
 
 ghost use Rattle.std.specs.Prelude.{◌≤◌, length};
 
-use answers::Made;
-use checker::Answer;
 use files::{Got, read_file, read_word};
+use record::Refusal;
 use record::reading::head_of;
+use search::Outcome;
 use std::env::FillError;
 use std::io;
 use std::rt::{Env, Files};
@@ -40,14 +40,13 @@ fn text(rt: &impl Print, words: &[u8]) -> io::Result<()> {
 // The lines go out in one write, so that no reader sees half an answer. 1,024 bytes are always enough (`theorems/proofs/Enough.antt`).
 fn print(
     rt: &impl Print,
-    answer: Answer,
+    answer: Result<Outcome, Refusal>,
     cut: &[u16],
     counts: &[u16],
     stamps: &[i32],
 ) -> io::Result<()> {
     let mut lines = [0u8; 1024];
-    let made = answers::answer(answer, cut, counts, stamps, &mut lines);
-    let Made::Lines(n) = made else {
+    let Some(n) = answers::answer(answer, cut, counts, stamps, &mut lines) else {
         return Ok(());
     };
     text(rt, &lines[..n])

@@ -1,2 +1,2 @@
 pub mod Cuts
-pub mod Loads
+pub mod Asked

@@ -1,9 +1,17 @@
--- What is in transit, as an answer: a word of an inner contract.
-use Rattle.std.specs.Prelude.{Option, Some, None}
-use Rattle.transit.specs.declared.Load.{Load}
-use Rattle.questions.specs.declared.Count.{Count}
-use Rattle.questions.specs.declared.Count.TheVariants as C
+-- Words of the contracts of the inner functions; the promises don't use them.
+use Rattle.std.specs.Prelude.{◌≡◌, List, ℕ}
+use Rattle.model.specs.Cut.{IsCut}
+use Rattle.record.specs.Refusal.{number, refusal}
+use Rattle.record.specs.Refusal.Reason.{wrong_cut}
+use Rattle.record.specs.declared.File.TheVariants.{Run}
+use Rattle.record.specs.declared.Head.{Head}
+use Rattle.record.specs.declared.Refusal.{Refusal}
+use Rattle.run.specs.Said.{run_in}
+use Rattle.judged.specs.Told.{Told}
 
-unfoldable pub as_count : Option Load → Count
-as_count None = C.Empty
-as_count (Some load) = C.Messages load.count load.lowest
+-- numbers are a cut of the run that was judged, or they aren't and 16 is given
+abbrev pub IsGiven : List ℕ → List ℕ → Head → Type 0
+IsGiven ix cut head = (s : List ℕ) → Told s ix head → IsCut (run_in s) cut
+
+abbrev pub NotGiven : List ℕ → List ℕ → Head → Refusal → Type 0
+NotGiven ix cut head x = (x ≡ refusal Run (number wrong_cut) 0) × ((s : List ℕ) → Told s ix head → ¬ IsCut (run_in s) cut)

@@ -2,12 +2,11 @@
 ghost use Rattle.judged.specs.Told.{Told};
 ghost use Rattle.questions.specs.Questions.{AskedEach};
 
-use crate::Counts;
-use cut::choice::is_cut;
+use crate::given::given_cut;
 use cut::listing::list_channels;
 use judging::whole::judge_run;
-use record::reasons::{CUT, NO_ROOM, refusal_of};
-use record::{File, Head};
+use record::reasons::{NO_ROOM, refusal_of};
+use record::{File, Head, Refusal};
 use run::RunReading;
 use run::index::INDEX_SIZE;
 
@@ -19,29 +18,32 @@ fn list_in(
     head: Head,
     counts: &mut [u16],
     stamps: &mut [i32],
-) -> Counts
+) -> Result<(), Refusal>
     requires { Told run.now index.now head }
     ensures { AskedEach run.now cut.now counts.old counts.new stamps.old stamps.new result }
 {
-    if !is_cut(index, cut, head.processes) {
-        return Counts::Refused(refusal_of(File::Run, CUT, 0));
-    }
+    given_cut(index, cut, head)?;
     let size = head.channels as usize;
     if (counts.len() < size) | (stamps.len() < size) {
-        return Counts::Refused(refusal_of(File::Run, NO_ROOM, 0));
+        return Err(refusal_of(File::Run, NO_ROOM, 0));
     }
     list_channels(run, index, cut, head.channels, counts, stamps);
-    Counts::Counted
+    Ok(())
 }
 
 // How many messages are in transit on each channel at the cut, consistent or not, and the lowest of their stamps, into the first places of a row each.
-pub fn messages_on_each(run: &[u8], cut: &[u16], counts: &mut [u16], stamps: &mut [i32]) -> Counts
+pub fn messages_on_each(
+    run: &[u8],
+    cut: &[u16],
+    counts: &mut [u16],
+    stamps: &mut [i32],
+) -> Result<(), Refusal>
     ensures { AskedEach run.now cut.now counts.old counts.new stamps.old stamps.new result }
 {
     let mut index = [0u16; INDEX_SIZE];
     let reading = judge_run(run, &mut index);
     match reading {
-        RunReading::Refused(refusal) => Counts::Refused(refusal),
+        RunReading::Refused(refusal) => Err(refusal),
         RunReading::Accepted(head) => list_in(run, &index, cut, head, counts, stamps),
     }
 }

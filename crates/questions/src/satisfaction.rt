@@ -3,13 +3,11 @@ ghost use Rattle.judged.specs.Told.{Told};
 ghost use Rattle.search.specs.Prepared.{Prepared};
 ghost use Rattle.questions.specs.Questions.{AskedSatisfies};
 
-use crate::Verdict;
+use crate::given::given_cut;
 use condition::ConditionReading;
 use condition::pass::read_condition;
-use cut::choice::is_cut;
 use judging::whole::judge_run;
-use record::reasons::{CUT, refusal_of};
-use record::{File, Head};
+use record::{Head, Refusal};
 use run::RunReading;
 use run::index::INDEX_SIZE;
 use search::satisfying::satisfied;
@@ -22,28 +20,29 @@ fn satisfies_at(
     clauses: &[u16],
     cut: &[u16],
     head: Head,
-) -> Verdict
+) -> Result<bool, Refusal>
     requires { Told run.now index.now head × Prepared run.now cond.now index.now clauses.now }
     ensures { AskedSatisfies run.now cond.now cut.now result }
 {
-    if !is_cut(index, cut, head.processes) {
-        return Verdict::Refused(refusal_of(File::Run, CUT, 0));
-    }
-    if satisfied(run, index, cond, clauses, cut, head.channels) {
-        return Verdict::Yes;
-    }
-    Verdict::No
+    given_cut(index, cut, head)?;
+    Ok(satisfied(run, index, cond, clauses, cut, head.channels))
 }
 
 // Of an accepted run: the condition's refusal, or what follows it.
-fn satisfies_in(run: &[u8], index: &[u16], cond: &[u8], cut: &[u16], head: Head) -> Verdict
+fn satisfies_in(
+    run: &[u8],
+    index: &[u16],
+    cond: &[u8],
+    cut: &[u16],
+    head: Head,
+) -> Result<bool, Refusal>
     requires { Told run.now index.now head }
     ensures { AskedSatisfies run.now cond.now cut.now result }
 {
     let mut clauses = [0u16; 32];
     let reading = read_condition(cond, head, &mut clauses);
     match reading {
-        ConditionReading::Refused(refusal) => Verdict::Refused(refusal),
+        ConditionReading::Refused(refusal) => Err(refusal),
         ConditionReading::Accepted(count) => {
             let size = count as usize;
             satisfies_at(run, index, cond, &clauses[..size], cut, head)
@@ -52,13 +51,13 @@ fn satisfies_in(run: &[u8], index: &[u16], cond: &[u8], cut: &[u16], head: Head)
 }
 
 // Whether the cut is consistent and every clause of the condition holds there.
-pub fn satisfies(run: &[u8], cond: &[u8], cut: &[u16]) -> Verdict
+pub fn satisfies(run: &[u8], cond: &[u8], cut: &[u16]) -> Result<bool, Refusal>
     ensures { AskedSatisfies run.now cond.now cut.now result }
 {
     let mut index = [0u16; INDEX_SIZE];
     let reading = judge_run(run, &mut index);
     match reading {
-        RunReading::Refused(refusal) => Verdict::Refused(refusal),
+        RunReading::Refused(refusal) => Err(refusal),
         RunReading::Accepted(head) => satisfies_in(run, &index, cond, cut, head),
     }
 }

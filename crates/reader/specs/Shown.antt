@@ -1,5 +1,5 @@
 -- The bytes shown for a refusal: a part of the file at fault.
-use Rattle.std.specs.Prelude.{◌≡◌, Bool, cond, ◌||◌, ◌&&◌, not, List, ℕ, ◌+◌, ◌-◌, ltb, eqb, length, take, drop}
+use Rattle.std.specs.Prelude.{◌≡◌, Bool, cond, ◌||◌, ◌&&◌, not, List, ℕ, ◌+◌, ◌-◌, min, ltb, eqb, length, take, drop}
 use Rattle.std.specs.Borrow.{Bor}
 use Rattle.record.specs.declared.File.{File}
 use Rattle.record.specs.declared.File.TheVariants.{Run, Condition}
@@ -13,14 +13,10 @@ abbrev pub file_of : {A : Type 0} → File → A → A → A
 file_of Run run condition = run
 file_of Condition run condition = condition
 
--- the lesser of two numbers
-abbrev pub least : ℕ → ℕ → ℕ
-least a b = cond (ltb a b) a b
-
 -- all to the end of the file for a record after the end, or where the two bytes of a length aren't left; else the stated length, cut at the end of
 -- the file
 unfoldable pub shown_count : List ℕ → ℕ → Bool → ℕ
-shown_count s at after = cond (after || ltb (length s - at) 2) (length s - at) (least (length s - at) (length_at s at))
+shown_count s at after = cond (after || ltb (length s - at) 2) (length s - at) (min (length s - at) (length_at s at))
 
 -- from its place on, which for a place past the end is the end
 abbrev pub record_part : File → List ℕ → Refusal → Part

@@ -1,4 +1,4 @@
-// A reader of the run: the lent bytes together with a place. Each function is thin, and leaves the work to the reading step over bytes and a place
+// A reader of the run: the lent bytes together with a place. Each method is thin, and leaves the work to the reading step over bytes and a place
 // apart. `shown` gives the bytes of a refused record.
 #![tactic(auto)]
 
@@ -24,33 +24,32 @@ pub struct Part {
     pub count: usize,
 }
 
-// A reader at a place; the front is place 0.
-pub fn new<'a>(run: &'a [u8], place: usize) -> Reader<'a>
-    ensures { (result.run ≡ run.entry) × (result.place ≡ place) }
-{
-    Reader { run, place }
-}
+impl<'a> Reader<'a> {
+    // A reader at a place; the front is place 0.
+    pub fn new(run: &'a [u8], place: usize) -> Reader<'a>
+        ensures { (result.run ≡ run.entry) × (result.place ≡ place) }
+    {
+        Reader { run, place }
+    }
 
-pub fn place_of<'a>(reader: Reader<'a>) -> usize
-    ensures { result ≡ reader.entry.place }
-{
-    reader.place
-}
+    pub fn place_of(self) -> usize
+        ensures { result ≡ self.entry.place }
+    {
+        self.place
+    }
 
-// The record at the reader's place with the place after it, or else the refusal.
-pub fn next<'a>(reader: Reader<'a>) -> Step
-    ensures { result ≡ step_at reader.entry.run.now reader.entry.place }
-{
-    step(reader.run, reader.place)
-}
+    // The record at the reader's place with the place after it, or else the refusal.
+    pub fn next(self) -> Step
+        ensures { result ≡ step_at self.entry.run.now self.entry.place }
+    {
+        step(self.run, self.place)
+    }
 
-// The same bytes at another place.
-pub fn moved<'a>(reader: Reader<'a>, place: usize) -> Reader<'a>
-    ensures { (result.run ≡ reader.entry.run) × (result.place ≡ place) }
-{
-    Reader {
-        run: reader.run,
-        place,
+    // The same bytes at another place.
+    pub fn moved(self, place: usize) -> Reader<'a>
+        ensures { (result.run ≡ self.entry.run) × (result.place ≡ place) }
+    {
+        Reader { place, ..self }
     }
 }
 
@@ -58,7 +57,7 @@ pub fn moved<'a>(reader: Reader<'a>, place: usize) -> Reader<'a>
 pub fn read_at(run: &[u8], place: usize) -> Step
     ensures { result ≡ step_at run.now place }
 {
-    next(new(run, place))
+    Reader::new(run, place).next()
 }
 
 // The record at the front.

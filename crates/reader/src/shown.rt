@@ -1,6 +1,6 @@
 // The bytes shown for a refusal: a part of the run or of the condition, whichever is at fault.
 ghost use Rattle.std.specs.Prelude.{◌≡◌};
-ghost use Rattle.reader.specs.Shown.{file_of, least, shown_count, front, part_of, IsPart};
+ghost use Rattle.reader.specs.Shown.{file_of, shown_count, front, part_of, IsPart};
 ghost use Rattle.reader.specs.Inner.{has_record};
 
 use crate::Part;
@@ -35,13 +35,8 @@ fn bytes_of<'a>(run: &'a [u8], cond: &'a [u8], file: File) -> &'a [u8]
     }
 }
 
-fn least_of(a: usize, b: usize) -> usize
-    ensures { result ≡ least a b }
-{
-    if a < b { a } else { b }
-}
-
 // A record after the end, or one without the two bytes of a length, states none that counts: all that is left is shown.
+#[tactic(auto, unfolding(crate::specs::Shown::shown_count))]
 fn count_of(bytes: &[u8], at: usize, after: bool) -> usize
     ensures { result ≡ shown_count bytes.now at after }
 {
@@ -49,7 +44,7 @@ fn count_of(bytes: &[u8], at: usize, after: bool) -> usize
     if after | (left < 2) {
         return left;
     }
-    least_of(left, u16_at(bytes, at) as usize)
+    left.min(u16_at(bytes, at) as usize)
 }
 
 // Which part is shown; the run's empty front part where the refusal is of no record.

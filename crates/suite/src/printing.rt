@@ -1,8 +1,8 @@
 // What the suite prints: the lines of an answer, each answer in one write, and words and numbers of its own.
-use answers::Made;
-use checker::Answer;
-use questions::{Count, Verdict};
+use questions::Load;
+use record::Refusal;
 use record::reading::head_of;
+use search::Outcome;
 use std::io;
 
 pub fn text(rt: &impl Print, words: &[u8]) -> io::Result<()> {
@@ -16,32 +16,30 @@ pub fn print_answer(
     places: &[u16],
     counts: &[u16],
     stamps: &[i32],
-    answer: Answer,
+    answer: Result<Outcome, Refusal>,
 ) -> io::Result<()> {
     let mut lines = [0u8; 1024];
     let head = head_of(run);
     let n = answers::filled(head.processes, places);
     let m = answers::filled(head.channels, counts);
     let made = answers::answer(answer, &places[..n], &counts[..m], stamps, &mut lines);
-    let Made::Lines(length) = made else {
+    let Some(length) = made else {
         return Ok(());
     };
     text(rt, &lines[..length])
 }
 
-pub fn print_verdict(rt: &impl Print, verdict: Verdict) -> io::Result<()> {
+pub fn print_verdict(rt: &impl Print, verdict: Result<bool, Refusal>) -> io::Result<()> {
     let mut lines = [0u8; 1024];
-    let made = answers::verdict(verdict, &mut lines);
-    let Made::Lines(length) = made else {
+    let Some(length) = answers::verdict(verdict, &mut lines) else {
         return Ok(());
     };
     text(rt, &lines[..length])
 }
 
-pub fn print_count(rt: &impl Print, count: Count) -> io::Result<()> {
+pub fn print_count(rt: &impl Print, count: Result<Option<Load>, Refusal>) -> io::Result<()> {
     let mut lines = [0u8; 1024];
-    let made = answers::count(count, &mut lines);
-    let Made::Lines(length) = made else {
+    let Some(length) = answers::count(count, &mut lines) else {
         return Ok(());
     };
     text(rt, &lines[..length])

@@ -1,6 +1,5 @@
 // What stands in a run at a place, by the reader.
 use crate::printing::{number, print_verdict, spaced, text};
-use questions::Verdict;
 use record::{ChannelFields, Head, Record, StateFields, Step};
 use std::io;
 
@@ -49,6 +48,6 @@ pub fn answer(rt: &impl Print, run: &[u8], place: u16) -> io::Result<()> {
     let step = step_at(run, place);
     match step {
         Step::Got(record, next) => record_line(rt, record, next),
-        Step::Refused(refusal) => print_verdict(rt, Verdict::Refused(refusal)),
+        Step::Refused(refusal) => print_verdict(rt, Err(refusal)),
     }
 }

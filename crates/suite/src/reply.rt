@@ -3,7 +3,6 @@ ghost use Rattle.std.specs.Prelude.{◌≤◌, length};
 
 use crate::printing::{places_line, print_answer, print_count, print_verdict, stamps_line, text};
 use crate::{records, shown};
-use questions::{Counts, Verdict};
 use record::bytes::signed_of;
 use record::reading::head_of;
 use std::io;
@@ -45,11 +44,7 @@ fn search(rt: &impl Print, run: &[u8], cond: &[u8], places: &mut [u16]) -> io::R
 // The channels at the cut that stands in the first places; rows of zeros where they aren't told.
 fn channels(run: &[u8], places: &[u16], counts: &mut [u16], stamps: &mut [i32]) {
     let n = answers::filled(head_of(run).processes, places);
-    let told = questions::listing::messages_on_each(run, &places[..n], counts, stamps);
-    match told {
-        Counts::Counted => {}
-        Counts::Refused(_) => {}
-    }
+    let _ = questions::listing::messages_on_each(run, &places[..n], counts, stamps);
 }
 
 // The same in two calls, one for the cut and one for the channels.
@@ -86,8 +81,8 @@ fn each_in(
     lend_stamps(stamps);
     let told = questions::listing::messages_on_each(run, cut, counts, stamps);
     match told {
-        Counts::Counted => text(rt, b"counted\n")?,
-        Counts::Refused(refusal) => print_verdict(rt, Verdict::Refused(refusal))?,
+        Ok(()) => text(rt, b"counted\n")?,
+        Err(refusal) => print_verdict(rt, Err(refusal))?,
     }
     places_line(rt, counts)?;
     stamps_line(rt, stamps)

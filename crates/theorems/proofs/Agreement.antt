@@ -7,6 +7,7 @@ use Prim.Native.Nat.{ℕ, ◌+◌, ◌≤◌}
 use native.Mathlib.Decide.{ℕ_discrete}
 use native.Mathlib.Omega.{arith}
 use lib.ListN.{length, replicate, length-append}
+use Rattle.std.specs.Prelude.{Result, Ok}
 use Rattle.model.proofs.Numbers.{never}
 use Rattle.model.specs.Cut.{ClockIs, IsCut, Consistent, in_transit}
 use Rattle.model.specs.Clause.{Clause, First}
@@ -16,6 +17,7 @@ use Rattle.model.proofs.Conserved.{conserved}
 use Rattle.model.proofs.Lattice.{first_unique}
 use Rattle.model.proofs.Order.{clock_unique, consistent_by_message, consistent_by_clock}
 use Rattle.model.proofs.Search.{ones, first_ones}
+use Rattle.record.specs.declared.Refusal.{Refusal}
 use Rattle.record.specs.Bytes.{u16_at}
 use Rattle.record.specs.Record.{head_of}
 use Rattle.record.specs.Pass.Read.{accepted}
@@ -36,8 +38,8 @@ use Rattle.condition.specs.Accepted.{ConditionAccepted}
 use Rattle.condition.specs.Known.{clauses_for}
 use Rattle.condition.proofs.Accepted.{clauses-in, clauses_length}
 use Rattle.condition.proofs.Laws.{by_place, item_stepped}
-use Rattle.checker.specs.declared.Answer.{Answer}
-use Rattle.checker.specs.declared.Answer.TheVariants as A
+use Rattle.search.specs.declared.Outcome.{Outcome}
+use Rattle.search.specs.declared.Outcome.TheVariants as O
 use Rattle.checker.specs.Answered.{Both, Answered}
 use Rattle.theorems.specs.Numbers.{clause_count}
 use Rattle.theorems.proofs.HasClock.{has_clock}
@@ -122,8 +124,8 @@ pub clause-count : (s c : List ℕ) → ConditionAccepted s c → length (clause
 clause-count s c v = ap length (clauses-in c (head_of s) _ v) ∙ clauses_length c (head_of s) _ ∙ places_counted c (head_of s) _ v
 
 -- "With K = 0 the first is state 1 everywhere": the answer is found, and the lent places hold ones
-pub no_clause : {s c lent lent' : List ℕ} {a : Answer} → Both s c → clause_count c ≡ 0 → (head_of s).processes ≤ length lent → Answered s c lent lent' a
-    → (a ≡ A.Found) × (cut_in s lent' ≡ replicate (head_of s).processes 1)
+pub no_clause : {s c lent lent' : List ℕ} {a : Result Outcome Refusal} → Both s c → clause_count c ≡ 0 → (head_of s).processes ≤ length lent → Answered s c lent lent' a
+    → (a ≡ Ok O.Found) × (cut_in s lent' ≡ replicate (head_of s).processes 1)
 no_clause {s} {c} {lent} {lent'} v zero-clauses room w =
     let f = subst (λ cs. First (run_in s) cs (ones (run_in s))) (sym none) (first_ones (run_in s) (known v.run)) in
     let e = (found_exactly v room w).1 (ones (run_in s), f.satisfies) in

@@ -8,6 +8,7 @@ use borrow.Author.Tests.{lt-leb}
 use lib.Dec.{T}
 use lib.ListN.{length, get_or, take, drop, length-append, length-drop, get_or-append}
 use lib.Seq.{get_or-append-add, get_or-drop}
+use Rattle.std.specs.Prelude.{Result, Ok, Err}
 use Rattle.model.proofs.Numbers.{never}
 use Rattle.model.specs.Run.{processes}
 use Rattle.model.specs.Known.{Known}
@@ -35,8 +36,8 @@ use Rattle.condition.specs.Clauses.{test_of}
 use Rattle.condition.specs.Judge.{test_no}
 use Rattle.condition.specs.declared.Test.{Test}
 use Rattle.condition.proofs.Accepted.{condition_linear}
-use Rattle.checker.specs.declared.Answer.{Answer}
-use Rattle.checker.specs.declared.Answer.TheVariants as A
+use Rattle.search.specs.declared.Outcome.{Outcome}
+use Rattle.search.specs.declared.Outcome.TheVariants as O
 use Rattle.judged.specs.Accepted.{RunAccepted}
 use Rattle.condition.specs.Accepted.{ConditionAccepted}
 use Rattle.condition.specs.Known.{clauses_for}
@@ -55,18 +56,18 @@ cut_in s lent = take (head_of s).processes lent
 
 module _ {s c lent lent' : List ℕ} where
   -- "Bad input is refused by number and place in the stated order": the whole run,
-  pub run_refused_first : {x : Refusal} {a : Answer} → Judged s (R.Refused x) → Answered s c lent lent' a → a ≡ A.Refused x
+  pub run_refused_first : {x : Refusal} {a : Result Outcome Refusal} → Judged s (R.Refused x) → Answered s c lent lent' a → a ≡ Err x
   run_refused_first v w = (answered_one w (run_refused _ v refl)).0
 
   -- the whole condition,
-  pub condition_refused_next : {x : Refusal} {a : Answer} → RunAccepted s → read_of c (head_of s) ≡ refused x → Answered s c lent lent' a → a ≡ A.Refused x
+  pub condition_refused_next : {x : Refusal} {a : Result Outcome Refusal} → RunAccepted s → read_of c (head_of s) ≡ refused x → Answered s c lent lent' a → a ≡ Err x
   condition_refused_next v e w = (answered_one w (cond_refused _ v e refl)).0
 
   -- then 15.
-  pub no_room_last : {a : Answer} → Both s c → length lent < (head_of s).processes → Answered s c lent lent' a → a ≡ A.Refused (refusal Run (number no_room) 0)
+  pub no_room_last : {a : Result Outcome Refusal} → Both s c → length lent < (head_of s).processes → Answered s c lent lent' a → a ≡ Err (refusal Run (number no_room) 0)
   no_room_last v h w = (answered_one w (few v h refl)).0
 
-  only_found_writes : {a : Answer} → Answered s c lent lent' a → ¬ (a ≡ A.Found) → lent' ≡ lent
+  only_found_writes : {a : Result Outcome Refusal} → Answered s c lent lent' a → ¬ (a ≡ Ok O.Found) → lent' ≡ lent
   only_found_writes (run_refused y v k) n = k
   only_found_writes (cond_refused y v r k) n = k
   only_found_writes (few v h k) n = k
@@ -74,11 +75,11 @@ module _ {s c lent lent' : List ℕ} where
   only_found_writes (found v h cut f w) n = absurd (n refl)
 
   -- "A refusal changes nothing in lent memory,"
-  pub refusal_changes_nothing : {x : Refusal} → Answered s c lent lent' (A.Refused x) → lent' ≡ lent
+  pub refusal_changes_nothing : {x : Refusal} → Answered s c lent lent' (Err x) → lent' ≡ lent
   refusal_changes_nothing w = only_found_writes w (λ e. never (cc))
 
   -- nor does none.
-  pub none_changes_nothing : Answered s c lent lent' A.None → lent' ≡ lent
+  pub none_changes_nothing : Answered s c lent lent' (Ok O.None) → lent' ≡ lent
   none_changes_nothing w = only_found_writes w (λ e. never (cc))
 
 -- ---- demand 2
@@ -107,7 +108,7 @@ pub record Named (s c lent lent' : List ℕ) : Type 0 where
   pub wrote : Wrote (cut_in s lent') lent lent'
 
 module _ {s c lent lent' : List ℕ} where
-  pub named : {a : Answer} → Answered s c lent lent' a → a ≡ A.Found → Named s c lent lent'
+  pub named : {a : Result Outcome Refusal} → Answered s c lent lent' a → a ≡ Ok O.Found → Named s c lent lent'
   named (run_refused y v k) e = never (cc)
   named (cond_refused y v r k) e = never (cc)
   named (few v h k) e = never (cc)
@@ -117,27 +118,27 @@ module _ {s c lent lent' : List ℕ} where
       record { both = v; room = h; first = subst (First (run_in s) (clauses_for s c)) (sym same) f; wrote = subst (λ cut. Wrote cut lent lent') (sym same) w }
 
   -- "The cut named is consistent,
-  pub found_consistent : Answered s c lent lent' A.Found → Consistent (run_in s) (cut_in s lent')
+  pub found_consistent : Answered s c lent lent' (Ok O.Found) → Consistent (run_in s) (cut_in s lent')
   found_consistent w = (named w refl).first.satisfies.consistent
 
   -- meets every clause,
-  pub found_meets_every_clause : Answered s c lent lent' A.Found → (k : Clause) → Memᴰ k (clauses_for s c) → T (holds (run_in s) (cut_in s lent') k)
+  pub found_meets_every_clause : Answered s c lent lent' (Ok O.Found) → (k : Clause) → Memᴰ k (clauses_for s c) → T (holds (run_in s) (cut_in s lent') k)
   found_meets_every_clause w = (named w refl).first.satisfies.clauses
 
   -- and is at or before every other such cut at every station."
-  pub found_before_every_other : Answered s c lent lent' A.Found → (d : List ℕ) → Satisfies (run_in s) (clauses_for s c) d → (i : ℕ) → at (cut_in s lent') i ≤ at d i
+  pub found_before_every_other : Answered s c lent lent' (Ok O.Found) → (d : List ℕ) → Satisfies (run_in s) (clauses_for s c) d → (i : ℕ) → at (cut_in s lent') i ≤ at d i
   found_before_every_other w = (named w refl).first.least
 
   -- a first cut and room for it: found, with that cut in the places
-  pub first_found : Both s c → (head_of s).processes ≤ length lent → {cut : List ℕ} → First (run_in s) (clauses_for s c) cut → Wrote cut lent lent' → Answered s c lent lent' A.Found
+  pub first_found : Both s c → (head_of s).processes ≤ length lent → {cut : List ℕ} → First (run_in s) (clauses_for s c) cut → Wrote cut lent lent' → Answered s c lent lent' (Ok O.Found)
   first_found v h {cut} f w = found v h cut f w
 
   -- "None exactly if no such cut exists."
-  pub none_exactly : Both s c → (head_of s).processes ≤ length lent → {a : Answer} → Answered s c lent lent' a
-      → (a ≡ A.None) ↔ ((d : List ℕ) → ¬ Satisfies (run_in s) (clauses_for s c) d)
+  pub none_exactly : Both s c → (head_of s).processes ≤ length lent → {a : Result Outcome Refusal} → Answered s c lent lent' a
+      → (a ≡ Ok O.None) ↔ ((d : List ℕ) → ¬ Satisfies (run_in s) (clauses_for s c) d)
   none_exactly v h w = (no_cut w, λ n. (answered_one w (none v h n refl)).0)
     where
-      no_cut : {a : Answer} → Answered s c lent lent' a → a ≡ A.None → (d : List ℕ) → ¬ Satisfies (run_in s) (clauses_for s c) d
+      no_cut : {a : Result Outcome Refusal} → Answered s c lent lent' a → a ≡ Ok O.None → (d : List ℕ) → ¬ Satisfies (run_in s) (clauses_for s c) d
       no_cut (run_refused y v k) e = never (cc)
       no_cut (cond_refused y v r k) e = never (cc)
       no_cut (few v h k) e = never (cc)
@@ -156,11 +157,11 @@ written cut lent h = record {
 }
 
 -- where some cut satisfies the answer is found
-pub found_exactly : {s c lent lent' : List ℕ} → Both s c → (head_of s).processes ≤ length lent → {a : Answer} → Answered s c lent lent' a
-    → (a ≡ A.Found) ↔ ((d : List ℕ) × Satisfies (run_in s) (clauses_for s c) d)
+pub found_exactly : {s c lent lent' : List ℕ} → Both s c → (head_of s).processes ≤ length lent → {a : Result Outcome Refusal} → Answered s c lent lent' a
+    → (a ≡ Ok O.Found) ↔ ((d : List ℕ) × Satisfies (run_in s) (clauses_for s c) d)
 found_exactly {s} {c} {lent} {lent'} v h {a} w = (λ e. let n = named w e in (cut_in s lent', n.first.satisfies), some)
   where
-    some : ((d : List ℕ) × Satisfies (run_in s) (clauses_for s c) d) → a ≡ A.Found
+    some : ((d : List ℕ) × Satisfies (run_in s) (clauses_for s c) d) → a ≡ Ok O.Found
     some (d, x) =
         let (cut, f) = has_first (run_in s) (known v.run) (clauses_for s c) (linear v) d x in
         (answered_one w (first_found v h f (written cut lent (omega (arith, h, f.satisfies.is_cut.size, size v.run))))).0
@@ -171,9 +172,9 @@ head_same : (g h : Head) → g.processes ≡ h.processes → g.channels ≡ h.ch
 head_same g h e d = ap (λ x. record { processes = x; channels = g.channels }) e ∙ ap (λ x. record { processes = h.processes; channels = x }) d
 
 -- "Nothing past the cut counts: two accepted runs with the same stations and channels that agree up to one's first cut have the same first cut."
-pub nothing_past_counts : {s t c lent lent' other other' : List ℕ} {a : Answer}
-    → Answered s c lent lent' A.Found → RunAccepted t → SameUpTo (cut_in s lent') (run_in s) (run_in t) → (head_of t).processes ≤ length other → Answered t c other other' a
-    → (a ≡ A.Found) × (cut_in t other' ≡ cut_in s lent')
+pub nothing_past_counts : {s t c lent lent' other other' : List ℕ} {a : Result Outcome Refusal}
+    → Answered s c lent lent' (Ok O.Found) → RunAccepted t → SameUpTo (cut_in s lent') (run_in s) (run_in t) → (head_of t).processes ≤ length other → Answered t c other other' a
+    → (a ≡ Ok O.Found) × (cut_in t other' ≡ cut_in s lent')
 nothing_past_counts {s} {t} {c} {lent} {lent'} {other} w v same room u =
     let n = named w refl in
     let read = accepted_read n.both.run refl in
@@ -192,10 +193,10 @@ nothing_past_counts {s} {t} {c} {lent} {lent'} {other} w v same room u =
     (o.0, ap (cut_in t) o.1 ∙ take_written (head_of t).processes (sym long) room x)
 
 -- "More clauses never give an earlier cut."
-pub more_never_earlier : {s c more lent lent' other other' : List ℕ} {a : Answer}
-    → Answered s more other other' A.Found → ConditionAccepted s c → ((k : Clause) → Memᴰ k (clauses_for s c) → Memᴰ k (clauses_for s more))
+pub more_never_earlier : {s c more lent lent' other other' : List ℕ} {a : Result Outcome Refusal}
+    → Answered s more other other' (Ok O.Found) → ConditionAccepted s c → ((k : Clause) → Memᴰ k (clauses_for s c) → Memᴰ k (clauses_for s more))
     → (head_of s).processes ≤ length lent → Answered s c lent lent' a
-    → (a ≡ A.Found) × ((i : ℕ) → at (cut_in s lent') i ≤ at (cut_in s other') i)
+    → (a ≡ Ok O.Found) × ((i : ℕ) → at (cut_in s lent') i ≤ at (cut_in s other') i)
 more_never_earlier {s} {c} {more} {lent} {lent'} {other} {other'} w v all room u =
     let n = named w refl in
     let b : Both s c = record { run = n.both.run; cond = v } in

@@ -7,6 +7,7 @@ use native.Mathlib.Omega.{arith}
 use lib.IntN.{ℤ, pos}
 use lib.ListN.{length, get_or}
 use lib.Seq.{ext_get_or}
+use Rattle.std.specs.Prelude.{Bool, Option, Some, Result, Ok, Err}
 use Rattle.model.specs.declared.Message.{Message}
 use Rattle.model.specs.Run.{Run}
 use Rattle.model.specs.Cut.{in_transit}
@@ -21,20 +22,13 @@ use Rattle.run.specs.declared.RunReading.TheVariants as R
 use Rattle.judged.proofs.Once.{judged_one}
 use Rattle.record.specs.Pass as D
 use Rattle.record.specs.Pass.Read.{refused, accepted}
-use Rattle.checker.specs.declared.Answer.{Answer}
-use Rattle.checker.specs.declared.Answer.TheVariants as A
-use Rattle.questions.specs.declared.Count.{Count}
-use Rattle.questions.specs.declared.Count.TheVariants as C
-use Rattle.questions.specs.declared.Counts.{Counts}
-use Rattle.questions.specs.declared.Counts.TheVariants as N
-use Rattle.questions.specs.declared.Verdict.{Verdict}
-use Rattle.questions.specs.declared.Verdict.TheVariants as W
+use Rattle.search.specs.declared.Outcome.{Outcome}
+use Rattle.transit.specs.declared.Load.{Load}
 use Rattle.judged.specs.Accepted.{RunAccepted}
 use Rattle.cut.specs.Listing.{Wrote, WroteLowest}
 use Rattle.checker.specs.Answered.{Answered, AnsweredListed}
 use Rattle.checker.specs.Answered.Answered.{run_refused, cond_refused, few, none, found}
 use Rattle.questions.specs.Questions.{AskedConsistent, AskedMessages, AskedEach, AskedSatisfies}
-use Rattle.answers.specs.declared.Made.{Made}
 use Rattle.answers.specs.Made.{MadeOf}
 use Rattle.answers.specs.Made.MadeOf.{made, too_short}
 
@@ -72,14 +66,14 @@ module _ {s : List ℕ} where
   not_both : {x : Refusal} → Judged s (R.Refused x) → RunAccepted s → ⊥
   not_both j k = let e = judged_one s j k in never (cc)
 
-  pub answered_one : {c lent l m : List ℕ} {a b : Answer} → Answered s c lent l a → Answered s c lent m b → (a ≡ b) × (l ≡ m)
-  answered_one (run_refused x v e) (run_refused x' v' e') = (ap A.Refused (same_refusal v v'), e ∙ sym e')
+  pub answered_one : {c lent l m : List ℕ} {a b : Result Outcome Refusal} → Answered s c lent l a → Answered s c lent m b → (a ≡ b) × (l ≡ m)
+  answered_one (run_refused x v e) (run_refused x' v' e') = (ap Err (same_refusal v v'), e ∙ sym e')
   answered_one (run_refused x v e) (cond_refused x' v' r' e') = absurd (not_both v v')
   answered_one (run_refused x v e) (few v' h' e') = absurd (not_both v v'.run)
   answered_one (run_refused x v e) (none v' h' n' e') = absurd (not_both v v'.run)
   answered_one (run_refused x v e) (found v' h' cut' f' g') = absurd (not_both v v'.run)
   answered_one (cond_refused x v r e) (run_refused x' v' e') = absurd (not_both v' v)
-  answered_one (cond_refused x v r e) (cond_refused x' v' r' e') = (ap A.Refused (refused_once r r'), e ∙ sym e')
+  answered_one (cond_refused x v r e) (cond_refused x' v' r' e') = (ap Err (refused_once r r'), e ∙ sym e')
   answered_one (cond_refused x v r e) (few v' h' e') = absurd (not_read r v'.cond)
   answered_one (cond_refused x v r e) (none v' h' n' e') = absurd (not_read r v'.cond)
   answered_one (cond_refused x v r e) (found v' h' cut' f' g') = absurd (not_read r v'.cond)
@@ -99,7 +93,7 @@ module _ {s : List ℕ} where
   answered_one (found v h cut f g) (none v' h' n' e') = absurd (n' cut f.satisfies)
   answered_one (found v h cut f g) (found v' h' cut' f' g') = (refl, wrote_one g (rw (first_unique f f') g'))
 
-  pub listed_one : {c lent l m counts q r : List ℕ} {stamps t u : List ℤ} {a b : Answer} → AnsweredListed s c lent l counts q stamps t a → AnsweredListed s c lent m counts r stamps u b
+  pub listed_one : {c lent l m counts q r : List ℕ} {stamps t u : List ℤ} {a b : Result Outcome Refusal} → AnsweredListed s c lent l counts q stamps t a → AnsweredListed s c lent m counts r stamps u b
       → (a ≡ b) × (l ≡ m) × (q ≡ r) × (t ≡ u)
   listed_one (AnsweredListed.few_row v h d e f) (AnsweredListed.few_row v' h' d' e' f') = (refl, d ∙ sym d', e ∙ sym e', f ∙ sym f')
   listed_one (AnsweredListed.few_row v h d e f) (AnsweredListed.unlisted b n g w e' f') = absurd (h (g v))
@@ -113,8 +107,8 @@ module _ {s : List ℕ} where
       let same = first_unique i i' in
       (refl, (answered_one w w').1, wrote_one x (rw same x'), lowest_wrote_one y (rw same y'))
 
-  pub consistent_one : {cut : List ℕ} {a b : Verdict} → AskedConsistent s cut a → AskedConsistent s cut b → a ≡ b
-  consistent_one (AskedConsistent.run_refused x j) (AskedConsistent.run_refused y k) = ap W.Refused (same_refusal j k)
+  pub consistent_one : {cut : List ℕ} {a b : Result Bool Refusal} → AskedConsistent s cut a → AskedConsistent s cut b → a ≡ b
+  consistent_one (AskedConsistent.run_refused x j) (AskedConsistent.run_refused y k) = ap Err (same_refusal j k)
   consistent_one (AskedConsistent.run_refused x j) (AskedConsistent.not_cut k n) = absurd (not_both j k)
   consistent_one (AskedConsistent.run_refused x j) (AskedConsistent.yes k i t) = absurd (not_both j k)
   consistent_one (AskedConsistent.run_refused x j) (AskedConsistent.no k i t) = absurd (not_both j k)
@@ -131,8 +125,8 @@ module _ {s : List ℕ} where
   consistent_one (AskedConsistent.no j i t) (AskedConsistent.yes k l u) = absurd (t u)
   consistent_one (AskedConsistent.no j i t) (AskedConsistent.no k l u) = refl
 
-  pub messages_one : {cut : List ℕ} {channel : ℕ} {a b : Count} → AskedMessages s cut channel a → AskedMessages s cut channel b → a ≡ b
-  messages_one (AskedMessages.run_refused x j) (AskedMessages.run_refused y k) = ap C.Refused (same_refusal j k)
+  pub messages_one : {cut : List ℕ} {channel : ℕ} {a b : Result (Option Load) Refusal} → AskedMessages s cut channel a → AskedMessages s cut channel b → a ≡ b
+  messages_one (AskedMessages.run_refused x j) (AskedMessages.run_refused y k) = ap Err (same_refusal j k)
   messages_one (AskedMessages.run_refused x j) (AskedMessages.not_cut k m) = absurd (not_both j k)
   messages_one (AskedMessages.run_refused x j) (AskedMessages.no_such_channel k l h) = absurd (not_both j k)
   messages_one (AskedMessages.run_refused x j) (AskedMessages.empty k l h e) = absurd (not_both j k)
@@ -156,10 +150,10 @@ module _ {s : List ℕ} where
   messages_one (AskedMessages.messages j i g x w) (AskedMessages.not_cut k m) = absurd (m i)
   messages_one (AskedMessages.messages j i g x w) (AskedMessages.no_such_channel k l h) = absurd (omega (arith, g, h))
   messages_one (AskedMessages.messages j i g x w) (AskedMessages.empty k l h e) = absurd ((lowest_exactly _).0 (x, w) e)
-  messages_one {cut} {channel} (AskedMessages.messages j i g x w) (AskedMessages.messages k l h y v) = ap (C.Messages (length (in_transit (run_in s) cut channel))) (lowest_one w v)
+  messages_one {cut} {channel} (AskedMessages.messages j i g x w) (AskedMessages.messages k l h y v) = ap (λ (z : ℤ). Ok (Some (record { count = length (in_transit (run_in s) cut channel); lowest = z }))) (lowest_one w v)
 
-  pub each_one : {cut counts l m : List ℕ} {stamps q r : List ℤ} {a b : Counts} → AskedEach s cut counts l stamps q a → AskedEach s cut counts m stamps r b → (a ≡ b) × (l ≡ m) × (q ≡ r)
-  each_one (AskedEach.run_refused x j d d') (AskedEach.run_refused y k e e') = (ap N.Refused (same_refusal j k), d ∙ sym e, d' ∙ sym e')
+  pub each_one : {cut counts l m : List ℕ} {stamps q r : List ℤ} {a b : Result Unit Refusal} → AskedEach s cut counts l stamps q a → AskedEach s cut counts m stamps r b → (a ≡ b) × (l ≡ m) × (q ≡ r)
+  each_one (AskedEach.run_refused x j d d') (AskedEach.run_refused y k e e') = (ap Err (same_refusal j k), d ∙ sym e, d' ∙ sym e')
   each_one (AskedEach.run_refused x j d d') (AskedEach.not_cut k m e e') = absurd (not_both j k)
   each_one (AskedEach.run_refused x j d d') (AskedEach.few k l h e e') = absurd (not_both j k)
   each_one (AskedEach.run_refused x j d d') (AskedEach.listed k l h v y) = absurd (not_both j k)
@@ -176,14 +170,14 @@ module _ {s : List ℕ} where
   each_one (AskedEach.listed j i g w x) (AskedEach.few k l h e e') = absurd (h g)
   each_one (AskedEach.listed j i g w x) (AskedEach.listed k l h v y) = (refl, wrote_one w v, lowest_wrote_one x y)
 
-  pub satisfies_one : {c cut : List ℕ} {a b : Verdict} → AskedSatisfies s c cut a → AskedSatisfies s c cut b → a ≡ b
-  satisfies_one (AskedSatisfies.run_refused x j) (AskedSatisfies.run_refused y k) = ap W.Refused (same_refusal j k)
+  pub satisfies_one : {c cut : List ℕ} {a b : Result Bool Refusal} → AskedSatisfies s c cut a → AskedSatisfies s c cut b → a ≡ b
+  satisfies_one (AskedSatisfies.run_refused x j) (AskedSatisfies.run_refused y k) = ap Err (same_refusal j k)
   satisfies_one (AskedSatisfies.run_refused x j) (AskedSatisfies.condition_refused y k e) = absurd (not_both j k)
   satisfies_one (AskedSatisfies.run_refused x j) (AskedSatisfies.not_cut k e m) = absurd (not_both j k)
   satisfies_one (AskedSatisfies.run_refused x j) (AskedSatisfies.yes k e u) = absurd (not_both j k)
   satisfies_one (AskedSatisfies.run_refused x j) (AskedSatisfies.no k e l u) = absurd (not_both j k)
   satisfies_one (AskedSatisfies.condition_refused x j d) (AskedSatisfies.run_refused y k) = absurd (not_both k j)
-  satisfies_one (AskedSatisfies.condition_refused x j d) (AskedSatisfies.condition_refused y k e) = ap W.Refused (refused_once d e)
+  satisfies_one (AskedSatisfies.condition_refused x j d) (AskedSatisfies.condition_refused y k e) = ap Err (refused_once d e)
   satisfies_one (AskedSatisfies.condition_refused x j d) (AskedSatisfies.not_cut k e m) = absurd (not_read d e)
   satisfies_one (AskedSatisfies.condition_refused x j d) (AskedSatisfies.yes k e u) = absurd (not_read d e)
   satisfies_one (AskedSatisfies.condition_refused x j d) (AskedSatisfies.no k e l u) = absurd (not_read d e)
@@ -204,7 +198,7 @@ module _ {s : List ℕ} where
   satisfies_one (AskedSatisfies.no j d i t) (AskedSatisfies.no k e l u) = refl
 
 -- lines made in a lent buffer, of an answer of any kind
-pub made_one : {lines buffer b c : List ℕ} {r t : Made} → MadeOf lines buffer b r → MadeOf lines buffer c t → (r ≡ t) × (b ≡ c)
+pub made_one : {lines buffer b c : List ℕ} {r t : Option ℕ} → MadeOf lines buffer b r → MadeOf lines buffer c t → (r ≡ t) × (b ≡ c)
 made_one (made h e) (made h' e') = (refl, e ∙ sym e')
 made_one (made h e) (too_short h' e') = absurd (omega arith)
 made_one (too_short h e) (made h' e') = absurd (omega arith)

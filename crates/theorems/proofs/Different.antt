@@ -6,15 +6,13 @@ use native.Mathlib.Omega.{arith}
 use lib.IntN.{ℤ, pos, negsuc}
 use lib.ListN.{length, take, drop, get_or}
 use lib.Seq.{take_all, take-nil}
+use Rattle.std.specs.Prelude.{Bool, true, false, Option, Some, None, Result, Ok, Err}
 use Rattle.record.specs.declared.File.{File}
 use Rattle.record.specs.declared.File.TheVariants.{Run, Condition}
 use Rattle.record.specs.declared.Refusal.{Refusal}
-use Rattle.checker.specs.declared.Answer.{Answer}
-use Rattle.checker.specs.declared.Answer.TheVariants as A
-use Rattle.questions.specs.declared.Count.{Count}
-use Rattle.questions.specs.declared.Count.TheVariants as C
-use Rattle.questions.specs.declared.Verdict.{Verdict}
-use Rattle.questions.specs.declared.Verdict.TheVariants as W
+use Rattle.search.specs.declared.Outcome.{Outcome}
+use Rattle.search.specs.declared.Outcome.TheVariants as O
+use Rattle.transit.specs.declared.Load.{Load}
 use Rattle.record.specs.Refusal.{refusal}
 use Rattle.writing.specs.Text.{bytes, digits, decimal, signed, spaced, pair_line, row_lines}
 use Rattle.answers.specs.Lines.{refused_word, refused_line, stamp_word, channel_line, channel_lines, found_lines, answer_lines, verdict_lines, count_line, count_lines}
@@ -37,20 +35,20 @@ pub record SameChannels (counts : List ℕ) (stamps : List ℤ) (counts' : List 
   pub stamped : (k : ℕ) → k < length stamps → (get_or counts k 0 ≡ 0 → ⊥) → get_or stamps k (pos 0) ≡ get_or stamps' k (pos 0)
 
 -- the rows are those of a found cut
-pub data SameAnswer (cut counts : List ℕ) (stamps : List ℤ) (cut' counts' : List ℕ) (stamps' : List ℤ) : Answer → Answer → Type 0 where
-  found : cut ≡ cut' → SameChannels counts stamps counts' stamps' → SameAnswer cut counts stamps cut' counts' stamps' A.Found A.Found
-  none : SameAnswer cut counts stamps cut' counts' stamps' A.None A.None
-  refused : {x y : Refusal} → SameRefusal x y → SameAnswer cut counts stamps cut' counts' stamps' (A.Refused x) (A.Refused y)
+pub data SameAnswer (cut counts : List ℕ) (stamps : List ℤ) (cut' counts' : List ℕ) (stamps' : List ℤ) : Result Outcome Refusal → Result Outcome Refusal → Type 0 where
+  found : cut ≡ cut' → SameChannels counts stamps counts' stamps' → SameAnswer cut counts stamps cut' counts' stamps' (Ok O.Found) (Ok O.Found)
+  none : SameAnswer cut counts stamps cut' counts' stamps' (Ok O.None) (Ok O.None)
+  refused : {x y : Refusal} → SameRefusal x y → SameAnswer cut counts stamps cut' counts' stamps' (Err x) (Err y)
 
-pub data SameVerdict : Verdict → Verdict → Type 0 where
-  yes : SameVerdict W.Yes W.Yes
-  no : SameVerdict W.No W.No
-  refused : {x y : Refusal} → SameRefusal x y → SameVerdict (W.Refused x) (W.Refused y)
+pub data SameVerdict : Result Bool Refusal → Result Bool Refusal → Type 0 where
+  yes : SameVerdict (Ok true) (Ok true)
+  no : SameVerdict (Ok false) (Ok false)
+  refused : {x y : Refusal} → SameRefusal x y → SameVerdict (Err x) (Err y)
 
-pub data SameCount : Count → Count → Type 0 where
-  empty : SameCount C.Empty C.Empty
-  messages : {n m : ℕ} {x y : ℤ} → n ≡ m → x ≡ y → SameCount (C.Messages n x) (C.Messages m y)
-  refused : {x y : Refusal} → SameRefusal x y → SameCount (C.Refused x) (C.Refused y)
+pub data SameCount : Result (Option Load) Refusal → Result (Option Load) Refusal → Type 0 where
+  empty : SameCount (Ok None) (Ok None)
+  messages : {a b : Load} → a.count ≡ b.count → a.lowest ≡ b.lowest → SameCount (Ok (Some a)) (Ok (Some b))
+  refused : {x y : Refusal} → SameRefusal x y → SameCount (Err x) (Err y)
 
 -- ---- the words differ
 
@@ -145,46 +143,46 @@ whole_rows {counts} {stamps} {counts'} {stamps'} h h' same =
 -- ---- the answers
 
 module _ (cut counts : List ℕ) (stamps : List ℤ) (cut' counts' : List ℕ) (stamps' : List ℤ) where
-  pub answers_differ : (a b : Answer) → answer_lines a cut counts stamps ≡ answer_lines b cut' counts' stamps'
+  pub answers_differ : (a b : Result Outcome Refusal) → answer_lines a cut counts stamps ≡ answer_lines b cut' counts' stamps'
       → SameAnswer cut counts stamps cut' counts' stamps' a b
   unfolding answer_lines found_lines bytes
-  answers_differ A.Found A.Found e = let (cuts, channels) = found_same cut counts stamps cut' counts' stamps' e in found cuts channels
-  answers_differ A.Found A.None e = absurd (differ 0 (λ z. omega arith) e)
-  answers_differ A.Found (A.Refused y) e = absurd (no_refusal y (λ z. omega arith) e)
-  answers_differ A.None A.Found e = absurd (differ 0 (λ z. omega arith) e)
-  answers_differ A.None A.None e = none
-  answers_differ A.None (A.Refused y) e = absurd (no_refusal y (λ z. omega arith) e)
-  answers_differ (A.Refused x) A.Found e = absurd (no_refusal x (λ z. omega arith) (sym e))
-  answers_differ (A.Refused x) A.None e = absurd (no_refusal x (λ z. omega arith) (sym e))
-  answers_differ (A.Refused x) (A.Refused y) e = refused (refused_same x y e)
+  answers_differ (Ok O.Found) (Ok O.Found) e = let (cuts, channels) = found_same cut counts stamps cut' counts' stamps' e in found cuts channels
+  answers_differ (Ok O.Found) (Ok O.None) e = absurd (differ 0 (λ z. omega arith) e)
+  answers_differ (Ok O.Found) (Err y) e = absurd (no_refusal y (λ z. omega arith) e)
+  answers_differ (Ok O.None) (Ok O.Found) e = absurd (differ 0 (λ z. omega arith) e)
+  answers_differ (Ok O.None) (Ok O.None) e = none
+  answers_differ (Ok O.None) (Err y) e = absurd (no_refusal y (λ z. omega arith) e)
+  answers_differ (Err x) (Ok O.Found) e = absurd (no_refusal x (λ z. omega arith) (sym e))
+  answers_differ (Err x) (Ok O.None) e = absurd (no_refusal x (λ z. omega arith) (sym e))
+  answers_differ (Err x) (Err y) e = refused (refused_same x y e)
 
-pub verdicts_differ : (a b : Verdict) → verdict_lines a ≡ verdict_lines b → SameVerdict a b
+pub verdicts_differ : (a b : Result Bool Refusal) → verdict_lines a ≡ verdict_lines b → SameVerdict a b
 unfolding verdict_lines bytes
-verdicts_differ W.Yes W.Yes e = yes
-verdicts_differ W.Yes W.No e = absurd (differ 0 (λ z. omega arith) e)
-verdicts_differ W.Yes (W.Refused y) e = absurd (no_refusal y (λ z. omega arith) e)
-verdicts_differ W.No W.Yes e = absurd (differ 0 (λ z. omega arith) e)
-verdicts_differ W.No W.No e = no
-verdicts_differ W.No (W.Refused y) e = absurd (no_refusal y (λ z. omega arith) e)
-verdicts_differ (W.Refused x) W.Yes e = absurd (no_refusal x (λ z. omega arith) (sym e))
-verdicts_differ (W.Refused x) W.No e = absurd (no_refusal x (λ z. omega arith) (sym e))
-verdicts_differ (W.Refused x) (W.Refused y) e = refused (refused_same x y e)
+verdicts_differ (Ok true) (Ok true) e = yes
+verdicts_differ (Ok true) (Ok false) e = absurd (differ 0 (λ z. omega arith) e)
+verdicts_differ (Ok true) (Err y) e = absurd (no_refusal y (λ z. omega arith) e)
+verdicts_differ (Ok false) (Ok true) e = absurd (differ 0 (λ z. omega arith) e)
+verdicts_differ (Ok false) (Ok false) e = no
+verdicts_differ (Ok false) (Err y) e = absurd (no_refusal y (λ z. omega arith) e)
+verdicts_differ (Err x) (Ok true) e = absurd (no_refusal x (λ z. omega arith) (sym e))
+verdicts_differ (Err x) (Ok false) e = absurd (no_refusal x (λ z. omega arith) (sym e))
+verdicts_differ (Err x) (Err y) e = refused (refused_same x y e)
 
-pub counts_differ : (a b : Count) → count_lines a ≡ count_lines b → SameCount a b
+pub counts_differ : (a b : Result (Option Load) Refusal) → count_lines a ≡ count_lines b → SameCount a b
 unfolding count_lines count_line bytes
-counts_differ C.Empty C.Empty e = empty
-counts_differ C.Empty (C.Messages m y) e = absurd (differ 0 (λ z. omega arith) e)
-counts_differ C.Empty (C.Refused y) e = absurd (no_refusal y (λ z. omega arith) e)
-counts_differ (C.Messages n x) C.Empty e = absurd (differ 0 (λ z. omega arith) e)
-counts_differ (C.Messages n x) (C.Messages m y) e = let (counts, stamps) = count_line_same n m x y e in messages counts stamps
-counts_differ (C.Messages n x) (C.Refused y) e = absurd (no_refusal y (λ z. omega arith) e)
-counts_differ (C.Refused x) C.Empty e = absurd (no_refusal x (λ z. omega arith) (sym e))
-counts_differ (C.Refused x) (C.Messages m y) e = absurd (no_refusal x (λ z. omega arith) (sym e))
-counts_differ (C.Refused x) (C.Refused y) e = refused (refused_same x y e)
+counts_differ (Ok None) (Ok None) e = empty
+counts_differ (Ok None) (Ok (Some m)) e = absurd (differ 0 (λ z. omega arith) e)
+counts_differ (Ok None) (Err y) e = absurd (no_refusal y (λ z. omega arith) e)
+counts_differ (Ok (Some n)) (Ok None) e = absurd (differ 0 (λ z. omega arith) e)
+counts_differ (Ok (Some n)) (Ok (Some m)) e = let (counts, stamps) = count_line_same n.count m.count n.lowest m.lowest e in messages counts stamps
+counts_differ (Ok (Some n)) (Err y) e = absurd (no_refusal y (λ z. omega arith) e)
+counts_differ (Err x) (Ok None) e = absurd (no_refusal x (λ z. omega arith) (sym e))
+counts_differ (Err x) (Ok (Some m)) e = absurd (no_refusal x (λ z. omega arith) (sym e))
+counts_differ (Err x) (Err y) e = refused (refused_same x y e)
 
 -- ---- the lines as the paper has them
 
-pub found-lines : answer_lines A.Found (2 ∷ 1 ∷ []) (1 ∷ []) (pos 5 ∷ []) ≡ bytes "found\nstate 0 2\nstate 1 1\nchannel 0 1 5\n"
+pub found-lines : answer_lines (Ok O.Found) (2 ∷ 1 ∷ []) (1 ∷ []) (pos 5 ∷ []) ≡ bytes "found\nstate 0 2\nstate 1 1\nchannel 0 1 5\n"
 unfolding answer_lines found_lines row_lines pair_line channel_lines channel_line stamp_word signed spaced decimal digits bytes
 found-lines = refl
 
@@ -201,14 +199,14 @@ pub lowest_channel_line : channel_line 0 1 (negsuc 2147483647) ≡ bytes "channe
 unfolding channel_line stamp_word spaced decimal digits bytes
 lowest_channel_line = rw lowest_number refl
 
-pub refused_lines : answer_lines (A.Refused (refusal Condition 14 65530)) [] [] [] ≡ bytes "refused cond 14 65530\n"
+pub refused_lines : answer_lines (Err (refusal Condition 14 65530)) [] [] [] ≡ bytes "refused cond 14 65530\n"
 unfolding answer_lines refused_line refused_word pair_line spaced decimal digits bytes
 refused_lines = refl
 
-pub count-lines : count_lines (C.Messages 100 (negsuc 4)) ≡ bytes "count 100 -5\n"
+pub count-lines : count_lines (Ok (Some (record { count = 100; lowest = negsuc 4 }))) ≡ bytes "count 100 -5\n"
 unfolding count_lines count_line signed spaced decimal digits bytes
 count-lines = refl
 
-pub empty_lines : count_lines C.Empty ≡ bytes "empty\n"
+pub empty_lines : count_lines (Ok None) ≡ bytes "empty\n"
 unfolding count_lines bytes
 empty_lines = refl

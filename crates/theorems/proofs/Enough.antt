@@ -6,15 +6,13 @@ use lib.IntN.{ℤ, pos}
 use lib.ListN.{length, get_or, length-append}
 use mir.Syntax.{w32}
 use mir.Val.{SFits}
+use Rattle.std.specs.Prelude.{Bool, true, false, Option, Some, None, Result, Ok, Err}
 use Rattle.record.specs.declared.File.{File}
 use Rattle.record.specs.declared.File.TheVariants.{Run, Condition}
 use Rattle.record.specs.declared.Refusal.{Refusal}
-use Rattle.checker.specs.declared.Answer.{Answer}
-use Rattle.checker.specs.declared.Answer.TheVariants as A
-use Rattle.questions.specs.declared.Count.{Count}
-use Rattle.questions.specs.declared.Count.TheVariants as C
-use Rattle.questions.specs.declared.Verdict.{Verdict}
-use Rattle.questions.specs.declared.Verdict.TheVariants as W
+use Rattle.search.specs.declared.Outcome.{Outcome}
+use Rattle.search.specs.declared.Outcome.TheVariants as O
+use Rattle.transit.specs.declared.Load.{Load}
 use Rattle.writing.specs.Text.{bytes}
 use Rattle.answers.specs.Lines.{refused_word, refused_line, found_lines, answer_lines, verdict_lines, count_lines}
 use Rattle.answers.proofs.ChannelLines.{channel_lines_short, count_line_long}
@@ -31,20 +29,20 @@ SmallStamps stamps = (k : ℕ) → SFits w32 (get_or stamps k (pos 0))
 abbrev pub SmallRefusal : Refusal → Type 0
 SmallRefusal x = (x.number < 65536) × (x.place < 2 ^ 64)
 
-abbrev pub SmallAnswer : Answer → List ℕ → List ℕ → List ℤ → Type 0
-SmallAnswer A.Found cut counts stamps = (length cut ≤ 8) × (length counts ≤ 16) × SmallRow cut × SmallRow counts × SmallStamps stamps
-SmallAnswer A.None cut counts stamps = Unit {0}
-SmallAnswer (A.Refused x) cut counts stamps = SmallRefusal x
+abbrev pub SmallAnswer : Result Outcome Refusal → List ℕ → List ℕ → List ℤ → Type 0
+SmallAnswer (Ok O.Found) cut counts stamps = (length cut ≤ 8) × (length counts ≤ 16) × SmallRow cut × SmallRow counts × SmallStamps stamps
+SmallAnswer (Ok O.None) cut counts stamps = Unit {0}
+SmallAnswer (Err x) cut counts stamps = SmallRefusal x
 
-abbrev pub SmallVerdict : Verdict → Type 0
-SmallVerdict W.Yes = Unit {0}
-SmallVerdict W.No = Unit {0}
-SmallVerdict (W.Refused x) = SmallRefusal x
+abbrev pub SmallVerdict : Result Bool Refusal → Type 0
+SmallVerdict (Ok true) = Unit {0}
+SmallVerdict (Ok false) = Unit {0}
+SmallVerdict (Err x) = SmallRefusal x
 
-abbrev pub SmallCount : Count → Type 0
-SmallCount C.Empty = Unit {0}
-SmallCount (C.Messages n x) = (n < 2 ^ 64) × SFits w32 x
-SmallCount (C.Refused x) = SmallRefusal x
+abbrev pub SmallCount : Result (Option Load) Refusal → Type 0
+SmallCount (Ok None) = Unit {0}
+SmallCount (Ok (Some m)) = (m.count < 2 ^ 64) × SFits w32 m.lowest
+SmallCount (Err x) = SmallRefusal x
 
 -- ---- and so their lines are short
 
@@ -67,20 +65,20 @@ found_short cut counts stamps h g small small' fits =
     let channels = channel_lines_short 1 counts stamps (omega arith) small' fits in
     simp length-append (omega (arith, states, channels))
 
-pub answers_short : (a : Answer) (cut counts : List ℕ) (stamps : List ℤ) → SmallAnswer a cut counts stamps → length (answer_lines a cut counts stamps) ≤ 1024
+pub answers_short : (a : Result Outcome Refusal) (cut counts : List ℕ) (stamps : List ℤ) → SmallAnswer a cut counts stamps → length (answer_lines a cut counts stamps) ≤ 1024
 unfolding answer_lines bytes
-answers_short A.Found cut counts stamps (h, g, small, small', fits) = found_short cut counts stamps h g small small' fits
-answers_short A.None cut counts stamps _ = omega arith
-answers_short (A.Refused x) cut counts stamps held = refused_short x held
+answers_short (Ok O.Found) cut counts stamps (h, g, small, small', fits) = found_short cut counts stamps h g small small' fits
+answers_short (Ok O.None) cut counts stamps _ = omega arith
+answers_short (Err x) cut counts stamps held = refused_short x held
 
-pub verdicts_short : (a : Verdict) → SmallVerdict a → length (verdict_lines a) ≤ 1024
+pub verdicts_short : (a : Result Bool Refusal) → SmallVerdict a → length (verdict_lines a) ≤ 1024
 unfolding verdict_lines bytes
-verdicts_short W.Yes _ = omega arith
-verdicts_short W.No _ = omega arith
-verdicts_short (W.Refused x) held = refused_short x held
+verdicts_short (Ok true) _ = omega arith
+verdicts_short (Ok false) _ = omega arith
+verdicts_short (Err x) held = refused_short x held
 
-pub counts_short : (a : Count) → SmallCount a → length (count_lines a) ≤ 1024
+pub counts_short : (a : Result (Option Load) Refusal) → SmallCount a → length (count_lines a) ≤ 1024
 unfolding count_lines bytes
-counts_short C.Empty _ = omega arith
-counts_short (C.Messages n x) (held, fits) = omega (arith, count_line_long n x, decimal_short 19 n (omega arith), signed_short x fits)
-counts_short (C.Refused x) held = refused_short x held
+counts_short (Ok None) _ = omega arith
+counts_short (Ok (Some m)) (held, fits) = omega (arith, count_line_long m.count m.lowest, decimal_short 19 m.count (omega arith), signed_short m.lowest fits)
+counts_short (Err x) held = refused_short x held

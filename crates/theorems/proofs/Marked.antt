@@ -1,6 +1,6 @@
 -- The marked cases of the run of two desks: a single table under a single theorem, over the bytes and in the words of the contracts.
 use mathlib.Core.Path.{◌≡◌, refl, sym, ap, ◌∙◌, subst}
-use mathlib.Core.Option.{Option, some, none}
+use mathlib.Core.Option.{none}
 use mathlib.Core.Logic.{◌↔◌}
 use mathlib.Core.List.{List, [], ◌∷◌, ◌++◌, Memᴰ}
 use Prim.Native.Nat.{ℕ, zero, suc, ◌+◌, ◌*◌, ◌≤◌, ◌<◌}
@@ -8,6 +8,7 @@ use native.Mathlib.Omega.{arith}
 use lib.Dec.{T}
 use lib.IntN.{pos}
 use lib.ListN.{length, get_or, drop}
+use Rattle.std.specs.Prelude.{Bool, true, false, Option, Some, None, Result, Ok, Err}
 use Rattle.model.specs.Run.{processes, IsState, into, state, paired}
 use Rattle.model.specs.Known.{Known}
 use Rattle.model.specs.Cut.{AfterCircle, IsCut, Consistent, ClockIs, in_transit}
@@ -20,6 +21,7 @@ use Rattle.model.specs.Clause.Test.{count_at_most, count_at_least, count_is, eve
 use Rattle.model.proofs.Decide.{consistent?, cut?, cut_iff, message_iff}
 use Rattle.model.proofs.Order.{consistent_by_message}
 use Rattle.model.proofs.Desks as M
+use Rattle.record.specs.declared.Refusal.{Refusal}
 use Rattle.record.specs.Bytes.{u16_at, u32_at, signed}
 use Rattle.record.specs.Refusal.{or_if, or_else, refusal}
 use Rattle.record.specs.Record.{length_of, frame_no, head_of, due, opening_no, step_no, channel_fields_at, state_fields_at, record_at, step_at}
@@ -37,12 +39,9 @@ use Rattle.condition.specs.Read as D
 use Rattle.condition.specs.Items as E
 use Rattle.condition.specs.Judge as J
 use Rattle.condition.specs.Clauses.{comparison_of, test_of, local_at, test_at, held_at, clauses_of}
-use Rattle.checker.specs.declared.Answer.{Answer}
-use Rattle.checker.specs.declared.Answer.TheVariants as A
-use Rattle.questions.specs.declared.Count.{Count}
-use Rattle.questions.specs.declared.Count.TheVariants as C
-use Rattle.questions.specs.declared.Verdict.{Verdict}
-use Rattle.questions.specs.declared.Verdict.TheVariants.{Yes, No}
+use Rattle.search.specs.declared.Outcome.{Outcome}
+use Rattle.search.specs.declared.Outcome.TheVariants as O
+use Rattle.transit.specs.declared.Load.{Load}
 use Rattle.judged.specs.Accepted.{RunAccepted}
 use Rattle.condition.specs.Accepted.{ConditionAccepted}
 use Rattle.condition.specs.Known.{clauses_for}
@@ -97,31 +96,31 @@ condition_8 = 6 ∷ 0 ∷ 16 ∷ 0 ∷ 1 ∷ 0 ∷ 12 ∷ 0 ∷ 18 ∷ 0 ∷ 0 �
 
 -- a case: whether a cut is consistent, what the search says, what is in transit on a channel; and what is refused where the clock has a 2 in place of the 1
 pub data Case : Type 0 where
-  cut : List ℕ → Verdict → Case
+  cut : List ℕ → Result Bool Refusal → Case
   search : (condition : List ℕ) → Option (List ℕ) → Case
-  messages : (cut : List ℕ) (channel : ℕ) → Count → Case
+  messages : (cut : List ℕ) (channel : ℕ) → Result (Option Load) Refusal → Case
   refused : (number place : ℕ) → Case
 
 abbrev pub Says : Case → Type 0
 Says (cut d a) = AskedConsistent (desks 1) d a
-Says (search c (some d)) = (lent lent' : List ℕ) → 2 ≤ length lent → Wrote d lent lent' → Answered (desks 1) c lent lent' A.Found
-Says (search c none) = (lent : List ℕ) → 2 ≤ length lent → Answered (desks 1) c lent lent A.None
+Says (search c (Some d)) = (lent lent' : List ℕ) → 2 ≤ length lent → Wrote d lent lent' → Answered (desks 1) c lent lent' (Ok O.Found)
+Says (search c None) = (lent : List ℕ) → 2 ≤ length lent → Answered (desks 1) c lent lent (Ok O.None)
 Says (messages d h a) = AskedMessages (desks 1) d h a
-Says (refused n place) = (c lent : List ℕ) → Answered (desks 2) c lent lent (A.Refused (refusal F.Run n place))
+Says (refused n place) = (c lent : List ℕ) → Answered (desks 2) c lent lent (Err (refusal F.Run n place))
 
 pub table : List Case
 table =
-    cut (1 ∷ 1 ∷ []) Yes ∷ cut (1 ∷ 2 ∷ []) No ∷ cut (1 ∷ 3 ∷ []) No
-    ∷ cut (2 ∷ 1 ∷ []) Yes ∷ cut (2 ∷ 2 ∷ []) Yes ∷ cut (2 ∷ 3 ∷ []) Yes
-    ∷ cut (3 ∷ 1 ∷ []) Yes ∷ cut (3 ∷ 2 ∷ []) Yes ∷ cut (3 ∷ 3 ∷ []) Yes
-    ∷ search condition_2 (some (1 ∷ 1 ∷ []))
-    ∷ search condition_3 (some (2 ∷ 1 ∷ [])) ∷ messages (2 ∷ 1 ∷ []) 0 (C.Messages 1 (pos 5))
-    ∷ search condition_4 (some (2 ∷ 2 ∷ []))
-    ∷ search condition_5 (some (2 ∷ 3 ∷ []))
-    ∷ search condition_6 none
-    ∷ search condition_7 (some (1 ∷ 1 ∷ []))
-    ∷ search condition_8 none
-    ∷ messages (1 ∷ 2 ∷ []) 0 C.Empty
+    cut (1 ∷ 1 ∷ []) (Ok true) ∷ cut (1 ∷ 2 ∷ []) (Ok false) ∷ cut (1 ∷ 3 ∷ []) (Ok false)
+    ∷ cut (2 ∷ 1 ∷ []) (Ok true) ∷ cut (2 ∷ 2 ∷ []) (Ok true) ∷ cut (2 ∷ 3 ∷ []) (Ok true)
+    ∷ cut (3 ∷ 1 ∷ []) (Ok true) ∷ cut (3 ∷ 2 ∷ []) (Ok true) ∷ cut (3 ∷ 3 ∷ []) (Ok true)
+    ∷ search condition_2 (Some (1 ∷ 1 ∷ []))
+    ∷ search condition_3 (Some (2 ∷ 1 ∷ [])) ∷ messages (2 ∷ 1 ∷ []) 0 (Ok (Some (record { count = 1; lowest = pos 5 })))
+    ∷ search condition_4 (Some (2 ∷ 2 ∷ []))
+    ∷ search condition_5 (Some (2 ∷ 3 ∷ []))
+    ∷ search condition_6 None
+    ∷ search condition_7 (Some (1 ∷ 1 ∷ []))
+    ∷ search condition_8 None
+    ∷ messages (1 ∷ 2 ∷ []) 0 (Ok None)
     ∷ refused 13 172
     ∷ []
 
@@ -242,12 +241,12 @@ two : (head_of (desks 1)).processes ≡ 2
 unfolding desks head_of u16_at
 two = refl
 
-at_first : (c : List ℕ) (ks : List Clause) (d : List ℕ) → Reads c ks → First M.desks ks d → Says (search c (some d))
+at_first : (c : List ℕ) (ks : List Clause) (d : List ℕ) → Reads c ks → First M.desks ks d → Says (search c (Some d))
 at_first c ks d (v, e) f lent lent' h w =
     first_found (record { run = run_accepted; cond = v }) (omega (arith, h, two))
     (subst (λ r. First r (clauses_for (desks 1) c) d) (sym (run_is 1)) (subst (λ ks. First M.desks ks d) (sym e) f)) w
 
-at_none : (c : List ℕ) (ks : List Clause) → Reads c ks → ((d : List ℕ) → ¬ Satisfies M.desks ks d) → Says (search c none)
+at_none : (c : List ℕ) (ks : List Clause) → Reads c ks → ((d : List ℕ) → ¬ Satisfies M.desks ks d) → Says (search c None)
 at_none c ks (v, e) n lent h = Answered.none (record { run = run_accepted; cond = v }) (omega (arith, h, two))
     (subst (λ r. (d : List ℕ) → ¬ Satisfies r (clauses_for (desks 1) c) d) (sym (run_is 1)) (subst (λ ks. (d : List ℕ) → ¬ Satisfies M.desks ks d) (sym e) n)) refl
 
@@ -264,21 +263,21 @@ module _ (d : List ℕ) (there : T (cut? M.desks d)) where
     λ w. (message_iff M.desks M.desks_known d).1 ((consistent_by_message M.desks M.desks_known d desks_cut).0 w),
   )
 
-  at_yes : T (consistent? M.desks d) → Says (cut d Yes)
+  at_yes : T (consistent? M.desks d) → Says (cut d (Ok true))
   at_yes t = AskedConsistent.yes run_accepted ours (subst (λ r. Consistent r d) (sym (run_is 1)) (by_test.0 t))
 
-  at_no : ¬ T (consistent? M.desks d) → Says (cut d No)
+  at_no : ¬ T (consistent? M.desks d) → Says (cut d (Ok false))
   at_no n = AskedConsistent.no run_accepted ours (λ w. n (by_test.1 (subst (λ r. Consistent r d) (run_is 1) w)))
 
-at_early : Says (messages (1 ∷ 2 ∷ []) 0 C.Empty)
+at_early : Says (messages (1 ∷ 2 ∷ []) 0 (Ok None))
 unfolding desks head_of u16_at M.desks M.row M.note
 at_early = AskedMessages.empty run_accepted (ours (1 ∷ 2 ∷ []) tt) (omega arith) (ap (λ r. in_transit r (1 ∷ 2 ∷ []) 0) (run_is 1) ∙ M.early)
 
-at_sent : Says (messages (2 ∷ 1 ∷ []) 0 (C.Messages 1 (pos 5)))
+at_sent : Says (messages (2 ∷ 1 ∷ []) 0 (Ok (Some (record { count = 1; lowest = pos 5 }))))
 unfolding desks head_of u16_at M.desks M.row M.note
 at_sent =
     let e = ap (λ r. in_transit r (2 ∷ 1 ∷ []) 0) (run_is 1) ∙ M.sent in
-    subst (λ n. AskedMessages (desks 1) (2 ∷ 1 ∷ []) 0 (C.Messages n (pos 5))) (ap length e)
+    subst (λ n. AskedMessages (desks 1) (2 ∷ 1 ∷ []) 0 (Ok (Some (record { count = n; lowest = pos 5 })))) (ap length e)
     (AskedMessages.messages run_accepted (ours (2 ∷ 1 ∷ []) tt) (omega arith) (pos 5) (subst (λ ms. LowestStamp ms (pos 5)) (sym e) (lowest_first (M.note 0 7 (pos 5)))))
 
 -- ---- the theorem
@@ -321,19 +320,19 @@ marked =
 
 -- and no other answer is allowed
 abbrev pub Only : Case → Type 0
-Only (cut d a) = (b : Verdict) → AskedConsistent (desks 1) d b → b ≡ a
-Only (search c (some d)) = (lent lent' : List ℕ) (a : Answer) → 2 ≤ length lent → length d ≤ length lent → Answered (desks 1) c lent lent' a → (a ≡ A.Found) × Wrote d lent lent'
-Only (search c none) = (lent lent' : List ℕ) (a : Answer) → 2 ≤ length lent → Answered (desks 1) c lent lent' a → (a ≡ A.None) × (lent' ≡ lent)
-Only (messages d h a) = (b : Count) → AskedMessages (desks 1) d h b → b ≡ a
-Only (refused n place) = (c lent lent' : List ℕ) (a : Answer) → Answered (desks 2) c lent lent' a → (a ≡ A.Refused (refusal F.Run n place)) × (lent' ≡ lent)
+Only (cut d a) = (b : Result Bool Refusal) → AskedConsistent (desks 1) d b → b ≡ a
+Only (search c (Some d)) = (lent lent' : List ℕ) (a : Result Outcome Refusal) → 2 ≤ length lent → length d ≤ length lent → Answered (desks 1) c lent lent' a → (a ≡ Ok O.Found) × Wrote d lent lent'
+Only (search c None) = (lent lent' : List ℕ) (a : Result Outcome Refusal) → 2 ≤ length lent → Answered (desks 1) c lent lent' a → (a ≡ Ok O.None) × (lent' ≡ lent)
+Only (messages d h a) = (b : Result (Option Load) Refusal) → AskedMessages (desks 1) d h b → b ≡ a
+Only (refused n place) = (c lent lent' : List ℕ) (a : Result Outcome Refusal) → Answered (desks 2) c lent lent' a → (a ≡ Err (refusal F.Run n place)) × (lent' ≡ lent)
 
 only : (k : Case) → Says k → Only k
 only (cut d a) w = λ b v. consistent_one v w
-only (search c (some d)) w = λ lent lent' a h l v.
+only (search c (Some d)) w = λ lent lent' a h l v.
     let x = written d lent l in
     let o = answered_one v (w lent (d ++ drop (length d) lent) h x) in
     (o.0, subst (Wrote d lent) (sym o.1) x)
-only (search c none) w = λ lent lent' a h v. answered_one v (w lent h)
+only (search c None) w = λ lent lent' a h v. answered_one v (w lent h)
 only (messages d h a) w = λ b v. messages_one v w
 only (refused n place) w = λ c lent lent' a v. answered_one v (w c lent)
 

@@ -10,6 +10,7 @@ use borrow.Author.Tests.{eqb-true, eqb-false}
 use lib.Dec.{T, eqb, eqb→eq, ltb}
 use lib.IntN.{ℤ}
 use lib.ListN.{length}
+use Rattle.std.specs.Prelude.{Option, Result, Err}
 use Rattle.model.specs.Clause.{some_of, every_of}
 use Rattle.model.proofs.Lists.{le_or_lt, or_T, every_mem}
 use Rattle.model.proofs.Numbers.{never}
@@ -41,16 +42,10 @@ use Rattle.condition.specs.Items as E
 use Rattle.condition.specs.Judge.{judge_no}
 use Rattle.condition.specs.Read as D
 use Rattle.condition.proofs.Laws.{item_stepped}
-use Rattle.checker.specs.declared.Answer.{Answer}
-use Rattle.checker.specs.declared.Answer.TheVariants as A
+use Rattle.search.specs.declared.Outcome.{Outcome}
 use Rattle.checker.specs.Answered.{Answered, AnsweredListed}
 use Rattle.checker.specs.Answered.Answered.{run_refused, cond_refused, few, none, found}
-use Rattle.questions.specs.declared.Count.{Count}
-use Rattle.questions.specs.declared.Count.TheVariants as M
-use Rattle.questions.specs.declared.Counts.{Counts}
-use Rattle.questions.specs.declared.Counts.TheVariants as N
-use Rattle.questions.specs.declared.Verdict.{Verdict}
-use Rattle.questions.specs.declared.Verdict.TheVariants as Y
+use Rattle.transit.specs.declared.Load.{Load}
 use Rattle.questions.specs.Questions.{AskedConsistent, AskedMessages, AskedEach, AskedSatisfies}
 use Rattle.theorems.specs.Refusals.{RefusalOf, run_numbers, condition_numbers, Gives}
 use Rattle.theorems.proofs.Determined.{refused_once}
@@ -72,9 +67,9 @@ reached {c} {h} (behind at next k r w g n e) =
     here_more (D.condition_pass c h) (reached w) r next g n e d.further d.within
 
 -- "A condition that isn't linear is refused as such": where its first faulty record is a clause with test 8 or 9 of a channel that exists, with 14 at that record
-pub not_linear_answered : {s c lent lent' : List ℕ} {a : Answer} {at next : ℕ} {k : ℕ × List ℕ} (t : Test) → RunAccepted s → length c ≤ 65535 → Reaches c (head_of s) at k
+pub not_linear_answered : {s c lent lent' : List ℕ} {a : Result Outcome Refusal} {at next : ℕ} {k : ℕ × List ℕ} (t : Test) → RunAccepted s → length c ≤ 65535 → Reaches c (head_of s) at k
     → D.given (E.step_at c at k.0) ≡ inr (I.Clause (K.Channel t), next) → t.channel < (head_of s).channels → (t.test ≡ 8) ⊎ (t.test ≡ 9)
-    → Answered s c lent lent' a → a ≡ A.Refused (refusal Condition 14 at)
+    → Answered s c lent lent' a → a ≡ Err (refusal Condition 14 at)
 unfolding D.read_of
 not_linear_answered {s} {c} {at = at} {next} t v short w g l e u =
     let n = not_linear_refused (head_of s) t l e in
@@ -218,7 +213,7 @@ of_the_condition : (own c : List ℕ) (h : Head) {x y : Refusal} → D.read_of c
 of_the_condition own c h {y = y} d same = subst (Given own condition_numbers) same (inr (condition_refusal c h y d))
 
 -- `first_cut`
-pub search_gives : {s c lent lent' : List ℕ} {a : Answer} (x : Refusal) → Answered s c lent lent' a → a ≡ A.Refused x → Gives (run_numbers ++ (15 ∷ [])) condition_numbers x
+pub search_gives : {s c lent lent' : List ℕ} {a : Result Outcome Refusal} (x : Refusal) → Answered s c lent lent' a → a ≡ Err x → Gives (run_numbers ++ (15 ∷ [])) condition_numbers x
 search_gives x (run_refused y j d) e = of_run _ _ j (cc)
 search_gives x (cond_refused y j d r) e = of_the_condition _ _ _ d (cc)
 search_gives x (few b h d) e = of_call _ _ 15 (in_list _ tt) (cc)
@@ -226,20 +221,20 @@ search_gives x (none b h n d) e = never (cc)
 search_gives x (found b h cut f w) e = never (cc)
 
 -- `first_cut_listed`
-pub listed_gives : {s c lent lent' counts counts' : List ℕ} {stamps stamps' : List ℤ} {a : Answer} (x : Refusal) → AnsweredListed s c lent lent' counts counts' stamps stamps' a → a ≡ A.Refused x → Gives (run_numbers ++ (15 ∷ [])) condition_numbers x
+pub listed_gives : {s c lent lent' counts counts' : List ℕ} {stamps stamps' : List ℤ} {a : Result Outcome Refusal} (x : Refusal) → AnsweredListed s c lent lent' counts counts' stamps stamps' a → a ≡ Err x → Gives (run_numbers ++ (15 ∷ [])) condition_numbers x
 listed_gives x (AnsweredListed.few_row b h d r t) e = of_call _ _ 15 (in_list _ tt) (cc)
 listed_gives x (AnsweredListed.unlisted a n h w r t) e = search_gives x w e
 listed_gives x (AnsweredListed.listed h w cut f v u) e = never (cc)
 
 -- `is_consistent`
-pub consistent_gives : {s cut : List ℕ} {a : Verdict} (x : Refusal) → AskedConsistent s cut a → a ≡ Y.Refused x → Gives (run_numbers ++ (16 ∷ [])) [] x
+pub consistent_gives : {s cut : List ℕ} {a : Result Bool Refusal} (x : Refusal) → AskedConsistent s cut a → a ≡ Err x → Gives (run_numbers ++ (16 ∷ [])) [] x
 consistent_gives x (AskedConsistent.run_refused y j) e = of_run _ _ j (cc)
 consistent_gives x (AskedConsistent.not_cut j n) e = of_call _ _ 16 (in_list _ tt) (cc)
 consistent_gives x (AskedConsistent.yes j i t) e = never (cc)
 consistent_gives x (AskedConsistent.no j i t) e = never (cc)
 
 -- `messages_on`
-pub messages_gives : {s cut : List ℕ} {channel : ℕ} {a : Count} (x : Refusal) → AskedMessages s cut channel a → a ≡ M.Refused x → Gives (run_numbers ++ (16 ∷ 17 ∷ [])) [] x
+pub messages_gives : {s cut : List ℕ} {channel : ℕ} {a : Result (Option Load) Refusal} (x : Refusal) → AskedMessages s cut channel a → a ≡ Err x → Gives (run_numbers ++ (16 ∷ 17 ∷ [])) [] x
 messages_gives x (AskedMessages.run_refused y j) e = of_run _ _ j (cc)
 messages_gives x (AskedMessages.not_cut j n) e = of_call _ _ 16 (in_list _ tt) (cc)
 messages_gives x (AskedMessages.no_such_channel j i h) e = of_call _ _ 17 (in_list _ tt) (cc)
@@ -247,14 +242,14 @@ messages_gives x (AskedMessages.empty j i h n) e = never (cc)
 messages_gives x (AskedMessages.messages j i h y w) e = never (cc)
 
 -- `messages_on_each`
-pub each_gives : {s cut counts counts' : List ℕ} {stamps stamps' : List ℤ} {a : Counts} (x : Refusal) → AskedEach s cut counts counts' stamps stamps' a → a ≡ N.Refused x → Gives (run_numbers ++ (15 ∷ 16 ∷ [])) [] x
+pub each_gives : {s cut counts counts' : List ℕ} {stamps stamps' : List ℤ} {a : Result Unit Refusal} (x : Refusal) → AskedEach s cut counts counts' stamps stamps' a → a ≡ Err x → Gives (run_numbers ++ (15 ∷ 16 ∷ [])) [] x
 each_gives x (AskedEach.run_refused y j d d') e = of_run _ _ j (cc)
 each_gives x (AskedEach.not_cut j n d d') e = of_call _ _ 16 (in_list _ tt) (cc)
 each_gives x (AskedEach.few j i h d d') e = of_call _ _ 15 (in_list _ tt) (cc)
 each_gives x (AskedEach.listed j i h w v) e = never (cc)
 
 -- `satisfies`
-pub satisfies_gives : {s c cut : List ℕ} {a : Verdict} (x : Refusal) → AskedSatisfies s c cut a → a ≡ Y.Refused x → Gives (run_numbers ++ (16 ∷ [])) condition_numbers x
+pub satisfies_gives : {s c cut : List ℕ} {a : Result Bool Refusal} (x : Refusal) → AskedSatisfies s c cut a → a ≡ Err x → Gives (run_numbers ++ (16 ∷ [])) condition_numbers x
 satisfies_gives x (AskedSatisfies.run_refused y j) e = of_run _ _ j (cc)
 satisfies_gives x (AskedSatisfies.condition_refused y j d) e = of_the_condition _ _ _ d (cc)
 satisfies_gives x (AskedSatisfies.not_cut j d n) e = of_call _ _ 16 (in_list _ tt) (cc)
@@ -268,7 +263,7 @@ step_gives s at {x} e =
     inl (step_refused ns s at x (step (Among ns) none_among s at (among ns tt) (among ns tt) (among ns tt) (among ns tt)) (ap R.given e))
 
 -- "No refusal has number 0": and so no answer has
-pub answer_numbered : {s c lent lent' : List ℕ} {a : Answer} (x : Refusal) → Answered s c lent lent' a → a ≡ A.Refused x → x.number ≡ 0 → ⊥
+pub answer_numbered : {s c lent lent' : List ℕ} {a : Result Outcome Refusal} (x : Refusal) → Answered s c lent lent' a → a ≡ Err x → x.number ≡ 0 → ⊥
 answer_numbered x w e z = ⊎_elim (λ v. other_than_0 tt v.number) (λ v. other_than_0 tt v.number) (search_gives x w e)
   where
     other_than_0 : {ns : List ℕ} → T (every_of (λ n. not (eqb n 0)) ns) → Memᴰ x.number ns → ⊥

@@ -2,7 +2,7 @@
 use borrow.Author.Rules.{rules}
 use native.Mathlib.Omega.{arith}
 use mathlib.Core.Path.{◌≡◌}
-use Prim.Native.Nat.{zero-le, min}
+use Prim.Native.Nat.{min}
 use lib.IntN.{pos}
 use lib.ListN.{length, get_or}
 use mir.Facts.{to_z-of_z}
@@ -13,29 +13,19 @@ use Rattle.answers.proofs.ChannelLines.{channel_line_at, channel-lines}
 use Rattle.answers.proofs.channels.channel_lines.Goals as goal
 
 pub loop-i-init : goal.loop-i-init
-loop-i-init c = (zero-le, put_none (omega arith) (omega arith))
-
-pub bounds-counts-i : goal.bounds-counts-i
-bounds-counts-i c = omega (arith, c.lesser-n.ensures)
-
-pub offset_bounds-stamps-i : goal.offset_bounds-stamps-i
-offset_bounds-stamps-i c = omega (arith, c.lesser-n.ensures)
-
-pub bounds-stamps-i : goal.bounds-stamps-i
-bounds-stamps-i c = omega (arith, c.lesser-n.ensures)
+loop-i-init c = put_none (omega arith) (omega arith)
 
 pub loop-i-preserved : goal.loop-i-preserved
 loop-i-preserved c =
     let a = c.args in
-    let stamp : SFits w32 (get_or a.stamps.now c.loop-i.i (pos 0)) = record { sfits = c.channel_line-arg-1.given } in
-    (search rules, lines_next (channel_line_at a.counts.now a.stamps.now) c.loop-i.invariant.1 (rw (to_z-of_z stamp) at c.channel_line-next.ensures))
+    let stamp : SFits w32 (get_or a.stamps.now c.loop-i.i (pos 0)) = search rules in
+    lines_next (channel_line_at a.counts.now a.stamps.now) c.loop-i.invariant (rw (to_z-of_z stamp) at c.channel_line-next.ensures)
 
 pub shape_of-buffer : goal.shape_of-buffer
-shape_of-buffer c = put_long c.loop-i.invariant.1
+shape_of-buffer c = put_long c.loop-i.invariant
 
 pub returns : goal.returns
 returns c =
-    let l = c.loop-i in
     let a = c.args in
-    let all : l.i ≡ min (length a.counts.now) (length a.stamps.now) = omega (arith, c.lesser-n.ensures) in
-    lines_all (channel_line_at a.counts.now a.stamps.now) l.invariant.1 all (channel-lines a.counts.now a.stamps.now)
+    let all : c.loop-i.i ≡ min (length a.counts.now) (length a.stamps.now) = omega arith in
+    lines_all (channel_line_at a.counts.now a.stamps.now) c.loop-i.invariant all (channel-lines a.counts.now a.stamps.now)

@@ -12,6 +12,7 @@ use Rattle.checker.specs.Answered.{Both}
 use Rattle.checker.specs.Answered.Answered.{none, found}
 use Rattle.search.proofs.Prepared.{given, searched_found, searched_none}
 use Rattle.checker.proofs.finding.search_in.Goals as goal
+use Rattle.checker.proofs.finding.search_in.Goals.{In-Found}
 
 both : {s c ix qs row lent : List ℕ} → Searching s c ix qs row lent → Both s c
 both r = record { run = r.accepted; cond = r.prepared.condition }
@@ -22,16 +23,18 @@ search-outcome-requires c = let r = c.requires in (given r.prepared, r.ones)
 pub returns-in_default : goal.returns-in_default
 returns-in_default c =
     let r = c.requires in
-    none (both r) r.room (searched_none r.prepared c.search-outcome.ensures c.in_default.is) refl
+    rw c.in_default.is (none (both r) r.room (searched_none r.prepared c.search-outcome.ensures c.in_default.is) refl)
+
+first : (c : In-Found) → First (run_in c.args.run.now) (clauses_for c.args.run.now c.args.cond.now) c.search-outcome.new.cut
+first c = searched_found c.requires.prepared c.search-outcome.ensures c.in-Found.is
 
 pub write-requires : goal.write-requires
 write-requires c =
-    let first : First (run_in c.args.run.now) (clauses_for c.args.run.now c.args.cond.now) c.search-outcome.new.cut = searched_found c.requires.prepared c.search-outcome.ensures c.in-Found.is in
     let r = c.requires in
-    omega (arith, first.satisfies.is_cut.size, processes_are _ r.prepared.index.listed.read, r.room)
+    let f = first (goal.at.write-requires c).In-Found in
+    omega (arith, f.satisfies.is_cut.size, processes_are _ r.prepared.index.listed.read, r.room)
 
 pub returns : goal.returns
 returns c =
-    let first : First (run_in c.args.run.now) (clauses_for c.args.run.now c.args.cond.now) c.search-outcome.new.cut = searched_found c.requires.prepared c.search-outcome.ensures c.in-Found.is in
     let r = c.requires in
-    found (both r) r.room _ (first) c.write.ensures
+    rw c.in-Found.is (found (both r) r.room _ (first (goal.at.returns c).In-Found) c.write.ensures)

@@ -7,16 +7,18 @@ use Rattle.checker.specs.Answered.Answered.{cond_refused}
 use Rattle.condition.proofs.Told.{condition-refused, clauses_few}
 use Rattle.search.proofs.Prepared.{condition_prepared}
 use Rattle.checker.proofs.finding.with_condition.Goals as goal
+use Rattle.checker.proofs.finding.with_condition.Goals.{In-Accepted}
+
+few : (c : In-Accepted) → c.in-Accepted.count ≤ length c.read_condition-reading.new.places
+few c = clauses_few _ _ _ c.requires.head c.read_condition-reading.ensures _ c.in-Accepted.is c.read_condition-reading.auto.places
 
 pub slice_bounds-clauses-end : goal.slice_bounds-clauses-end
 slice_bounds-clauses-end c =
-    let few : c.in-Accepted.count ≤ length c.read_condition-reading.new.places = clauses_few _ _ _ c.requires.head c.read_condition-reading.ensures _ c.in-Accepted.is c.read_condition-reading.auto.places in
-    few
+    few (goal.at.slice_bounds-clauses-end c).In-Accepted
 
 pub slice_bounds-search_for-end : goal.slice_bounds-search_for-end
 slice_bounds-search_for-end c =
-    let few : c.in-Accepted.count ≤ length c.read_condition-reading.new.places = clauses_few _ _ _ c.requires.head c.read_condition-reading.ensures _ c.in-Accepted.is c.read_condition-reading.auto.places in
-    sym (length-take-le _ _ few)
+    sym (length-take-le _ _ (few (goal.at.slice_bounds-search_for-end c).In-Accepted))
 
 pub search_for-requires : goal.search_for-requires
 search_for-requires c =

@@ -1,38 +1,31 @@
 -- `satisfies_at` meets its contract: at each way out, what the tests of the cut and of the clauses gave.
-use mathlib.Core.Bool.{not}
-use mathlib.Core.Path.{sym, ap, subst}
-use Rattle.model.specs.Cut.{IsCut}
+use mathlib.Core.Path.{◌≡◌, ap, subst}
+use mathlib.Core.Logic.{◌↔◌}
+use mathlib.Core.Bool.{true}
+use Rattle.std.proofs.lemmas.Result.{err_from_is_err_and}
 use Rattle.model.specs.Clause.{Satisfies}
-use Rattle.model.proofs.Numbers.{never}
 use Rattle.run.specs.Said.{run_in}
 use Rattle.search.proofs.Prepared.{given, clauses_are}
 use Rattle.questions.specs.Questions.{AskedSatisfies}
-use Rattle.questions.proofs.Cuts.{processes_few, told_cut, told_no_cut}
+use Rattle.questions.proofs.Cuts.{testable}
+use Rattle.questions.proofs.Asked.{satisfies_answers}
 use Rattle.questions.proofs.satisfaction.satisfies_at.Goals as goal
 
-pub is_cut-requires : goal.is_cut-requires
-is_cut-requires c = let r = c.requires.0 in (r.index.listed.long, processes_few r)
+pub given_cut-requires : goal.given_cut-requires
+given_cut-requires c = testable c.requires.0
 
-pub returns-then-not-is_cut : goal.returns-then-not-is_cut
-returns-then-not-is_cut c =
+pub returns-in_err-given_cut : goal.returns-in_err-given_cut
+returns-in_err-given_cut c =
     let r = c.requires in
-    rw c.refusal_of.ensures (AskedSatisfies.not_cut r.0.accepted r.1.condition (told_no_cut r.0 c.is_cut.ensures (ap not c.if-not-is_cut.true)))
+    let p = err_from_is_err_and c.from_residual.result c.from_residual.ensures.1 in
+    rw (p.1, p.2, c.in_err-given_cut.ensures.0) (AskedSatisfies.not_cut r.0.accepted r.1.condition (c.in_err-given_cut.ensures.1 _ r.0))
 
 pub satisfied-requires : goal.satisfied-requires
-satisfied-requires c =
-    let chosen : IsCut (run_in c.args.run.now) c.args.cut.now = told_cut c.requires.0 c.is_cut.ensures (ap not c.if-not-is_cut.false) in
-    let r = c.requires in (given r.1, chosen, ap (λ h. h.channels) r.0.head)
-
-pub returns-then-satisfied : goal.returns-then-satisfied
-returns-then-satisfied c =
-    let r = c.requires in
-    let a = c.args in
-    AskedSatisfies.yes r.0.accepted r.1.condition (subst (λ k. Satisfies (run_in a.run.now) k a.cut.now) (clauses_are r.1) (c.satisfied.ensures.0 c.if-satisfied.true))
+satisfied-requires c = let r = c.requires in (given r.1, c.in_ok-given_cut.ensures _ r.0, ap (λ h. h.channels) r.0.head)
 
 pub returns : goal.returns
 returns c =
-    let chosen : IsCut (run_in c.args.run.now) c.args.cut.now = told_cut c.requires.0 c.is_cut.ensures (ap not c.if-not-is_cut.false) in
     let r = c.requires in
     let a = c.args in
-    AskedSatisfies.no r.0.accepted r.1.condition (chosen)
-    (λ k. let t = c.satisfied.ensures.1 (subst (λ k. Satisfies (run_in a.run.now) k a.cut.now) (sym (clauses_are r.1)) k) in let f = c.if-satisfied.false in never (cc))
+    satisfies_answers r.0.accepted (c.in_ok-given_cut.ensures _ r.0) r.1.condition
+    (subst (λ k. (c.satisfied.result ≡ true) ↔ Satisfies (run_in a.run.now) k a.cut.now) (clauses_are r.1) c.satisfied.ensures)

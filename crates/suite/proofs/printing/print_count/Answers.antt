@@ -4,4 +4,4 @@ use Rattle.suite.proofs.printing.print_count.Goals as goal
 
 -- the lines stand within the buffer
 pub slice_bounds-text-end : goal.slice_bounds-text-end
-slice_bounds-text-end g c = made_front c.in-Lines.ensures refl
+slice_bounds-text-end g c = made_front c.in-Some.ensures refl
