@@ -22,10 +22,8 @@ fn show(rt: &impl Print, bytes: &[u8]) -> io::Result<()> {
 // One byte more than a file may have, so that a longer one is seen to be too long.
 fn main(rt: HostRuntime) -> io::Result<()> {
     let mut bytes = [0u8; 65536];
-    let got = files::read_word(&rt, &rt.stderr(), 1, &mut bytes);
-    if !got.whole {
+    let Some(n) = files::read_word(&rt, &rt.stderr(), 1, &mut bytes) else {
         return Ok(());
-    }
-    let n = got.n;
+    };
     show(&rt, &bytes[..n])
 }
