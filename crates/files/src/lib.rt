@@ -1,11 +1,13 @@
-// Reading whole files, and bytes in hexadecimal, for the programs. The functions of the operating system have no contract on what a file holds.
+// Reading whole files, and bytes and numbers in `words`, for the programs. The functions of the operating system have no contract on what a file holds.
 #![tactic(auto)]
+
+pub mod words;
 
 ghost use Rattle.std.specs.Prelude.{◌≤◌, length, IfOk, IfSome};
 
 use std::io::{Cursor, Error, ErrorKind, Read, Write};
 use std::rt::{Env, Files};
-use std::{fmt, fs, io, str};
+use std::{fs, io, str};
 
 // The longest path has a byte less.
 const PATH_SIZE: usize = 4096;
@@ -86,19 +88,4 @@ pub fn read_word(
     let mut path = [0u8; PATH_SIZE];
     let n = rt.arg(word, &mut path).unwrap_or(0);
     read_file(rt, errors, &path[..n], buffer)
-}
-
-// Two digits for each byte, and a dash where there is none.
-pub struct Hex<'a>(pub &'a [u8]);
-
-impl fmt::Display for Hex<'_> {
-    fn fmt<W: fmt::Write>(&self, f: &mut fmt::Formatter<W>) -> fmt::Result {
-        if self.0.is_empty() {
-            return f.write_str("-");
-        }
-        for byte in self.0 {
-            write!(f, "{byte:02x}")?;
-        }
-        Ok(())
-    }
 }
