@@ -9,7 +9,7 @@ use run::index::{INDEX_SIZE, clock_of, partner_of, place_of};
 use std::{io, iter};
 
 // A state by its process and its number.
-#[derive(Clone, Copy, PartialEq)]
+#[derive(Clone, Copy, PartialEq, Eq)]
 pub struct Spot {
     pub process: u16,
     pub number: u16,
@@ -92,8 +92,9 @@ fn around(rt: &impl Print, run: &[u8], index: &[u16], low: Spot) -> io::Result<(
     let next = |here: &Spot| back(run, index, *here).filter(|next| *next != low);
     for spot in iter::successors(Some(low), next).take(STATES) {
         let Spot { process, number } = spot;
-        let place = place(index, spot).unwrap_or(0);
-        println!(rt; "{place} circle process {process} state {number}")?;
+        if let Some(place) = place(index, spot) {
+            println!(rt; "{place} circle process {process} state {number}")?;
+        }
     }
     Ok(())
 }

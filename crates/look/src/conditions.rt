@@ -12,13 +12,14 @@ struct Comparison(u16);
 
 impl fmt::Display for Comparison {
     fn fmt<W: fmt::Write>(&self, f: &mut fmt::Formatter<W>) -> fmt::Result {
-        match self.0 {
-            1 => f.write_str("equal"),
-            2 => f.write_str("other than"),
-            3 => f.write_str("at most"),
-            4 => f.write_str("at least"),
-            number => write!(f, "comparison {number}"),
-        }
+        let words = match self.0 {
+            1 => "equal",
+            2 => "other than",
+            3 => "at most",
+            4 => "at least",
+            number => return write!(f, "comparison {number}"),
+        };
+        f.write_str(words)
     }
 }
 
@@ -28,18 +29,19 @@ struct Kind(u16);
 
 impl fmt::Display for Kind {
     fn fmt<W: fmt::Write>(&self, f: &mut fmt::Formatter<W>) -> fmt::Result {
-        match self.0 {
-            1 => f.write_str("count at most"),
-            2 => f.write_str("count at least"),
-            3 => f.write_str("count exactly"),
-            4 => f.write_str("some stamp equals"),
-            5 => f.write_str("no stamp equals"),
-            6 => f.write_str("every stamp at least"),
-            7 => f.write_str("some stamp at most"),
-            8 => f.write_str("count odd"),
-            9 => f.write_str("count other than"),
-            number => write!(f, "test {number}"),
-        }
+        let words = match self.0 {
+            1 => "count at most",
+            2 => "count at least",
+            3 => "count exactly",
+            4 => "some stamp equals",
+            5 => "no stamp equals",
+            6 => "every stamp at least",
+            7 => "some stamp at most",
+            8 => "count odd",
+            9 => "count other than",
+            number => return write!(f, "test {number}"),
+        };
+        f.write_str(words)
     }
 }
 
@@ -61,21 +63,12 @@ impl fmt::Display for Words {
             Item::Head(clauses) => write!(f, "condition clauses {clauses}"),
             Item::Clause(Clause::Local(local)) => {
                 let (process, value) = (local.process, local.value);
-                let comparison = Comparison(local.comparison);
-                write!(
-                    f,
-                    "process {process} value {value} {comparison} {}",
-                    local.constant
-                )
+                let (comparison, constant) = (Comparison(local.comparison), local.constant);
+                write!(f, "process {process} value {value} {comparison} {constant}")
             }
             Item::Clause(Clause::Channel(test)) => {
-                write!(
-                    f,
-                    "channel {} {} {}",
-                    test.channel,
-                    Kind(test.test),
-                    operand(test)
-                )
+                let (kind, operand) = (Kind(test.test), operand(test));
+                write!(f, "channel {} {kind} {operand}", test.channel)
             }
             Item::End => f.write_str("end"),
         }
@@ -114,7 +107,8 @@ fn following(cond: &[u8], here: Placed) -> Option<Placed> {
     }
 }
 
-// All records up to one that begins at the last place; a record has a byte at least.
+// All records up to one that begins at the last place; a record has a byte at least. `runs` has the same loop: one of both would take the first record,
+// what follows, the place and the line by four closures, which is no plainer.
 fn lines(rt: &impl Print, cond: &[u8], last: usize) -> io::Result<()> {
     let first = read(cond, 0, 0);
     for here in iter::successors(first, |here| following(cond, *here)).take(cond.len()) {

@@ -98,6 +98,7 @@ fn count_up(counts: &mut [u16], process: u16) -> u16 {
     *count
 }
 
+// The step gives whole records, so the values and the clock are there.
 fn state_line(
     rt: &impl Print,
     run: &[u8],

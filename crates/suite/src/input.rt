@@ -64,7 +64,7 @@ pub fn next_case<'a>(input: &mut impl Read, room: &'a mut Room) -> Result<Option
     }
     let [question, e0, e1, n0, n1, r0, r1, r2, r3, c0, c1, c2, c3] = head;
     let Room { cut, run, cond } = room;
-    let cut = read_numbers(input, cut, u16::from_le_bytes([n0, n1]) as usize)?;
+    let cut = read_numbers(input, cut, usize::from(u16::from_le_bytes([n0, n1])))?;
     let run = read_part(input, run, u32::from_le_bytes([r0, r1, r2, r3]) as usize)?;
     let cond = read_part(input, cond, u32::from_le_bytes([c0, c1, c2, c3]) as usize)?;
     Ok(Some(Case {
