@@ -1,9 +1,9 @@
 // Reads a run and a condition, and prints the first cut of the run at which the condition holds.
 #![tactic(auto)]
 
-ghost use Rattle.std.specs.Prelude.{◌≤◌, length};
+ghost use Rattle.std.specs.Prelude.{◌≤◌, length, IfSome};
 
-use files::{Got, read_file, read_word};
+use files::{read_file, read_word};
 use record::Refusal;
 use record::reading::head_of;
 use search::Outcome;
@@ -24,8 +24,8 @@ fn read_named(
     word: usize,
     name: &[u8],
     buffer: &mut [u8],
-) -> Got
-    ensures { result.n ≤ length buffer.old }
+) -> Option<usize>
+    ensures { IfSome result (λ n. n ≤ length buffer.old) }
 {
     if !has_word(rt, 2) {
         return read_file(rt, errors, name, buffer);
@@ -76,13 +76,11 @@ fn main(rt: HostRuntime) -> io::Result<()> {
     let mut cond = [0u8; 65536];
     let got_run = read_named(&rt, &errors, 1, b"run.rec", &mut run);
     let got_cond = read_named(&rt, &errors, 2, b"cond.rec", &mut cond);
-    if !got_run.whole {
+    let Some(n) = got_run else {
         return text(&rt, b"unreadable run\n");
-    }
-    if !got_cond.whole {
+    };
+    let Some(m) = got_cond else {
         return text(&rt, b"unreadable cond\n");
-    }
-    let n = got_run.n;
-    let m = got_cond.n;
+    };
     judge(&rt, &run[..n], &cond[..m])
 }

@@ -1,128 +1,121 @@
 // A condition, record by record up to the first refusal. It is judged beside the most that a run may have.
-use crate::line::{begin, end, long_at, named, part, signed};
 use crate::refusals;
 use condition::pass::read_condition;
 use condition::reading::step;
-use condition::{Clause, ConditionReading, ConditionStep, Item, Local, Test};
+use condition::{Clause, ConditionReading, ConditionStep, Item, Test};
 use record::Head;
-use std::io;
-use writing::{spaced, text};
+use std::{fmt, io, iter};
 
-fn comparison_words(comparison: u16, at: usize, line: &mut [u8]) -> usize {
-    match comparison {
-        1 => text(b" equal", at, line),
-        2 => text(b" other than", at, line),
-        3 => text(b" at most", at, line),
-        4 => text(b" at least", at, line),
-        _ => named(b" comparison", comparison, at, line),
+// A comparison by its number.
+#[derive(Drop)]
+struct Comparison(u16);
+
+impl fmt::Display for Comparison {
+    fn fmt<W: fmt::Write>(&self, f: &mut fmt::Formatter<W>) -> fmt::Result {
+        let words = match self.0 {
+            1 => "equal",
+            2 => "other than",
+            3 => "at most",
+            4 => "at least",
+            number => return write!(f, "comparison {number}"),
+        };
+        f.write_str(words)
     }
 }
 
-// The constant stands at 10 of the record.
-fn local_words(record: &[u8], clause: Local, at: usize, line: &mut [u8]) -> usize {
-    let next = named(b" process", clause.process, at, line);
-    let next = named(b" value", clause.value, next, line);
-    let next = comparison_words(clause.comparison, next, line);
-    signed(long_at(record, 10), next, line)
-}
+// A test by its number.
+#[derive(Drop)]
+struct Kind(u16);
 
-fn test_words(test: u16, at: usize, line: &mut [u8]) -> usize {
-    match test {
-        1 => text(b" count at most", at, line),
-        2 => text(b" count at least", at, line),
-        3 => text(b" count exactly", at, line),
-        4 => text(b" some stamp equals", at, line),
-        5 => text(b" no stamp equals", at, line),
-        6 => text(b" every stamp at least", at, line),
-        7 => text(b" some stamp at most", at, line),
-        8 => text(b" count odd", at, line),
-        9 => text(b" count other than", at, line),
-        _ => named(b" test", test, at, line),
+impl fmt::Display for Kind {
+    fn fmt<W: fmt::Write>(&self, f: &mut fmt::Formatter<W>) -> fmt::Result {
+        let words = match self.0 {
+            1 => "count at most",
+            2 => "count at least",
+            3 => "count exactly",
+            4 => "some stamp equals",
+            5 => "no stamp equals",
+            6 => "every stamp at least",
+            7 => "some stamp at most",
+            8 => "count odd",
+            9 => "count other than",
+            number => return write!(f, "test {number}"),
+        };
+        f.write_str(words)
     }
 }
 
 // A stamp is signed, a count isn't.
-fn channel_words(clause: Test, at: usize, line: &mut [u8]) -> usize {
-    let next = named(b" channel", clause.channel, at, line);
-    let next = test_words(clause.test, next, line);
-    if (4 <= clause.test) & (clause.test <= 7) {
-        return signed(clause.operand, next, line);
-    }
-    spaced(clause.operand as usize, next, line)
-}
-
-fn clause_words(record: &[u8], clause: Clause, at: usize, line: &mut [u8]) -> usize {
-    match clause {
-        Clause::Local(local) => local_words(record, local, at, line),
-        Clause::Channel(test) => channel_words(test, at, line),
+fn operand(test: Test) -> i64 {
+    match test.test {
+        4..=7 => i64::from(test.operand.cast_signed()),
+        _ => i64::from(test.operand),
     }
 }
 
-fn words(record: &[u8], item: Item, at: usize, line: &mut [u8]) -> usize {
-    match item {
-        Item::Head(clauses) => named(b" condition clauses", clauses, at, line),
-        Item::Clause(clause) => clause_words(record, clause, at, line),
-        Item::End => text(b" end", at, line),
+// A record in words.
+#[derive(Drop)]
+struct Words(Item);
+
+impl fmt::Display for Words {
+    fn fmt<W: fmt::Write>(&self, f: &mut fmt::Formatter<W>) -> fmt::Result {
+        match self.0 {
+            Item::Head(clauses) => write!(f, "condition clauses {clauses}"),
+            Item::Clause(Clause::Local(local)) => {
+                let (process, value) = (local.process, local.value);
+                let (comparison, constant) = (Comparison(local.comparison), local.constant);
+                write!(f, "process {process} value {value} {comparison} {constant}")
+            }
+            Item::Clause(Clause::Channel(test)) => {
+                let (kind, operand) = (Kind(test.test), operand(test));
+                write!(f, "channel {} {kind} {operand}", test.channel)
+            }
+            Item::End => f.write_str("end"),
+        }
     }
 }
 
-fn printed(rt: &impl Print, cond: &[u8], item: Item, place: usize, next: usize) -> io::Result<()> {
-    let mut line = [0u8; 128];
-    let at = begin(place, &mut line);
-    let at = words(part(cond, place, next), item, at, &mut line);
-    end(rt, at, &mut line)
-}
-
-// How many clauses are owed after a record where so many were ahead of it.
-fn owed_after(item: Item, owed: u16) -> u16 {
-    match item {
-        Item::Head(clauses) => clauses,
-        Item::Clause(_) => if owed == 0 { 0 } else { owed - 1 },
-        Item::End => 0,
-    }
-}
-
-fn goes_on(item: Item) -> bool {
-    match item {
-        Item::Head(_) => true,
-        Item::Clause(_) => true,
-        Item::End => false,
-    }
-}
-
-// The place after a record and what is owed there; the same place again where nothing follows.
+// A record at its place, the place after it, and how many clauses are owed there.
 #[derive(Clone, Copy)]
-struct Next {
+struct Placed {
     place: usize,
+    item: Item,
+    next: usize,
     owed: u16,
 }
 
-fn record_line(rt: &impl Print, cond: &[u8], here: Next) -> io::Result<Next> {
-    let got = step(cond, here.place, here.owed);
-    match got {
-        ConditionStep::Got(item, next) => {
-            printed(rt, cond, item, here.place, next)?;
-            let place = if goes_on(item) { next } else { here.place };
-            Ok(Next {
-                place,
-                owed: owed_after(item, here.owed),
-            })
-        }
-        ConditionStep::Refused(_) => Ok(here),
+fn read(cond: &[u8], place: usize, owed: u16) -> Option<Placed> {
+    match step(cond, place, owed) {
+        ConditionStep::Got(item, next) => Some(Placed {
+            place,
+            item,
+            next,
+            owed: match item {
+                Item::Head(clauses) => clauses,
+                _ => owed.saturating_sub(1),
+            },
+        }),
+        ConditionStep::Refused(_) => None,
     }
 }
 
-// All records up to one that begins at the last place; a record has a byte at least.
+// The record after one; nothing follows the end.
+fn following(cond: &[u8], here: Placed) -> Option<Placed> {
+    match here.item {
+        Item::End => None,
+        _ => read(cond, here.next, here.owed),
+    }
+}
+
+// All records up to one that begins at the last place; a record has a byte at least. `runs` has the same loop: one of both would take the first record,
+// what follows, the place and the line by four closures, which is no plainer.
 fn lines(rt: &impl Print, cond: &[u8], last: usize) -> io::Result<()> {
-    let mut here = Next { place: 0, owed: 0 };
-    let mut turns = cond.len();
-    while turns > 0 {
-        let next = record_line(rt, cond, here)?;
-        if (next.place == here.place) | (last <= here.place) {
+    let first = read(cond, 0, 0);
+    for here in iter::successors(first, |here| following(cond, *here)).take(cond.len()) {
+        println!(rt; "{} {}", here.place, Words(here.item))?;
+        if last <= here.place {
             break;
         }
-        here = next;
-        turns -= 1;
     }
     Ok(())
 }

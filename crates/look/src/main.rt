@@ -3,7 +3,6 @@
 
 mod circles;
 mod conditions;
-mod line;
 mod records;
 mod refusals;
 mod runs;
@@ -12,7 +11,7 @@ use std::io;
 
 // A condition begins with a record of kind 16; whatever else there is is taken for a run.
 fn show(rt: &impl Print, bytes: &[u8]) -> io::Result<()> {
-    if line::short_at(bytes, 2) == 16 {
+    if bytes.get(2..4) == Some(&[16, 0]) {
         conditions::show(rt, bytes)
     } else {
         runs::show(rt, bytes)
@@ -22,10 +21,8 @@ fn show(rt: &impl Print, bytes: &[u8]) -> io::Result<()> {
 // One byte more than a file may have, so that a longer one is seen to be too long.
 fn main(rt: HostRuntime) -> io::Result<()> {
     let mut bytes = [0u8; 65536];
-    let got = files::read_word(&rt, &rt.stderr(), 1, &mut bytes);
-    if !got.whole {
+    let Some(n) = files::read_word(&rt, &rt.stderr(), 1, &mut bytes) else {
         return Ok(());
-    }
-    let n = got.n;
+    };
     show(&rt, &bytes[..n])
 }

@@ -1,121 +1,133 @@
-// The records of a run in words.
-use crate::line::{long_at, named, short_at, signed};
+// The records of a run, one by one and in words.
+use reader::read_at;
 use record::layout::{CLOCK_PLACE, VALUES_PLACE};
-use record::{ChannelFields, Head, Record, StateFields};
-use writing::{spaced, text};
+use record::{Record, StateFields, Step};
+use std::{fmt, io};
 
-fn head_words(head: Head, at: usize, line: &mut [u8]) -> usize {
-    let next = named(b" run processes", head.processes, at, line);
-    named(b" channels", head.channels, next, line)
+// A record at its place, and the place after it.
+#[derive(Clone, Copy)]
+pub struct Placed {
+    pub place: usize,
+    pub record: Record,
+    pub next: usize,
 }
 
-fn channel_words(fields: ChannelFields, at: usize, line: &mut [u8]) -> usize {
-    let next = named(b" channel", fields.number, at, line);
-    let next = named(b" from", fields.from, next, line);
-    named(b" to", fields.to, next, line)
-}
-
-// A message with or without its stamp.
-fn message_words(f: StateFields, stamped: bool, at: usize, line: &mut [u8]) -> usize {
-    let next = named(b" channel", f.channel, at, line);
-    let next = text(b" message", next, line);
-    let next = spaced(f.message as usize, next, line);
-    if !stamped {
-        return next;
+pub fn read(run: &[u8], place: usize) -> Option<Placed> {
+    match read_at(run, place) {
+        Step::Got(record, next) => Some(Placed {
+            place,
+            record,
+            next,
+        }),
+        Step::Refused(_) => None,
     }
-    let next = text(b" stamp", next, line);
-    signed(f.stamp, next, line)
+}
+
+// The record after one; nothing follows the end.
+pub fn following(run: &[u8], here: Placed) -> Option<Placed> {
+    match here.record {
+        Record::End => None,
+        _ => read(run, here.next),
+    }
 }
 
 // An event by its name where the fields that it doesn't use are zero, else by its number with all of them.
-fn event_words(f: StateFields, at: usize, line: &mut [u8]) -> usize {
-    let unused = (f.channel == 0) & (f.message == 0) & (f.stamp == 0);
-    if (f.event == 0) & unused {
-        return text(b" start", at, line);
+#[derive(Drop)]
+struct Event(StateFields);
+
+impl fmt::Display for Event {
+    fn fmt<W: fmt::Write>(&self, f: &mut fmt::Formatter<W>) -> fmt::Result {
+        let StateFields {
+            event,
+            channel,
+            message,
+            stamp,
+            ..
+        } = self.0;
+        let is_bare = channel == 0 && message == 0 && stamp == 0;
+        let stamp = stamp.cast_signed();
+        match event {
+            0 if is_bare => f.write_str("start"),
+            1 if is_bare => f.write_str("internal"),
+            2 => write!(f, "send channel {channel} message {message} stamp {stamp}"),
+            3 if stamp == 0 => write!(f, "receive channel {channel} message {message}"),
+            _ => write!(
+                f,
+                "event {event} channel {channel} message {message} stamp {stamp}"
+            ),
+        }
     }
-    if (f.event == 1) & unused {
-        return text(b" internal", at, line);
-    }
-    if f.event == 2 {
-        let next = text(b" send", at, line);
-        return message_words(f, true, next, line);
-    }
-    if (f.event == 3) & (f.stamp == 0) {
-        let next = text(b" receive", at, line);
-        return message_words(f, false, next, line);
-    }
-    let next = named(b" event", f.event, at, line);
-    message_words(f, true, next, line)
 }
 
-// The four values.
-fn value_words(record: &[u8], at: usize, line: &mut [u8]) -> usize {
-    let mut next = text(b" values", at, line);
-    let mut v: usize = 0;
-    while v < 4 {
-        next = signed(long_at(record, VALUES_PLACE + 4 * v), next, line);
-        v += 1;
+// The values of a state's record.
+#[derive(Drop)]
+struct Values<'a>(&'a [u8]);
+
+impl fmt::Display for Values<'_> {
+    fn fmt<W: fmt::Write>(&self, f: &mut fmt::Formatter<W>) -> fmt::Result {
+        f.write_str("values")?;
+        let (values, _) = self.0.as_chunks();
+        for value in values {
+            write!(f, " {}", i32::from_le_bytes(*value))?;
+        }
+        Ok(())
     }
-    next
 }
 
-// The clock, a number for each process.
-fn clock_words(record: &[u8], processes: u16, at: usize, line: &mut [u8]) -> usize {
-    let mut next = text(b" clock", at, line);
-    let mut i: u16 = 0;
-    while i < processes {
-        next = spaced(
-            short_at(record, CLOCK_PLACE + 2 * (i as usize)) as usize,
-            next,
-            line,
-        );
-        i += 1;
+// Its clock, a number for each process.
+#[derive(Drop)]
+struct Clock<'a>(&'a [u8]);
+
+impl fmt::Display for Clock<'_> {
+    fn fmt<W: fmt::Write>(&self, f: &mut fmt::Formatter<W>) -> fmt::Result {
+        f.write_str("clock")?;
+        let (numbers, _) = self.0.as_chunks();
+        for number in numbers {
+            write!(f, " {}", u16::from_le_bytes(*number))?;
+        }
+        Ok(())
     }
-    next
 }
 
-fn state_words(
-    record: &[u8],
+// A process has one state more; which number that is, 1 of a process that doesn't exist.
+fn count_up(counts: &mut [u16], process: u16) -> u16 {
+    let Some(count) = counts.get_mut(usize::from(process)) else {
+        return 1;
+    };
+    *count = count.saturating_add(1);
+    *count
+}
+
+// The step gives whole records, so the values and the clock are there.
+fn state_line(
+    rt: &impl Print,
+    run: &[u8],
+    here: Placed,
     f: StateFields,
     number: u16,
-    processes: u16,
-    at: usize,
-    line: &mut [u8],
-) -> usize {
-    let next = named(b" process", f.process, at, line);
-    let next = named(b" state", number, next, line);
-    let next = event_words(f, next, line);
-    let next = value_words(record, next, line);
-    clock_words(record, processes, next, line)
+) -> io::Result<()> {
+    let Placed { place, next, .. } = here;
+    let bytes = run.get(place..next).unwrap_or_default();
+    let values = Values(bytes.get(VALUES_PLACE..CLOCK_PLACE).unwrap_or_default());
+    let clock = Clock(bytes.get(CLOCK_PLACE..).unwrap_or_default());
+    let (process, event) = (f.process, Event(f));
+    println!(rt; "{place} process {process} state {number} {event} {values} {clock}")
 }
 
-// A process has one state more; which number that is.
-fn count_up(counts: &mut [u16], process: u16) -> u16 {
-    let row = process as usize;
-    if counts.len() <= row {
-        return 1;
-    }
-    let count = counts[row];
-    if 65534 < count {
-        return count;
-    }
-    counts[row] = count + 1;
-    count + 1
-}
-
-// The words of the record that the step gave, with its bytes, beside the number of states of each process so far.
-pub fn words(
-    bytes: &[u8],
-    record: Record,
-    processes: u16,
-    counts: &mut [u16],
-    at: usize,
-    line: &mut [u8],
-) -> usize {
-    match record {
-        Record::Head(head) => head_words(head, at, line),
-        Record::Channel(fields) => channel_words(fields, at, line),
-        Record::State(f) => state_words(bytes, f, count_up(counts, f.process), processes, at, line),
-        Record::End => text(b" end", at, line),
+// The line of a record, beside the number of states of each process so far.
+pub fn line(rt: &impl Print, run: &[u8], here: Placed, counts: &mut [u16]) -> io::Result<()> {
+    let place = here.place;
+    match here.record {
+        Record::Head(head) => {
+            println!(rt;
+                "{place} run processes {} channels {}",
+                head.processes, head.channels
+            )
+        }
+        Record::Channel(c) => {
+            println!(rt; "{place} channel {} from {} to {}", c.number, c.from, c.to)
+        }
+        Record::State(f) => state_line(rt, run, here, f, count_up(counts, f.process)),
+        Record::End => println!(rt; "{place} end"),
     }
 }

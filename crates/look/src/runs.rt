@@ -1,147 +1,67 @@
 // A run, record by record up to the first refusal, and what more there is to say of that.
-use crate::line::{begin, end, part};
+use crate::records::{following, read};
 use crate::{circles, records, refusals};
+use circles::{Spot, clock};
+use files::words::Numbers;
 use judging::whole::judge_run;
-use reader::read_at;
 use record::reading::head_of;
-use record::{Record, Refusal, StateFields, Step};
+use record::{Record, Refusal, StateFields};
 use run::RunReading;
 use run::index::INDEX_SIZE;
-use std::io;
-use writing::{spaced, text};
-
-// Whether a record follows the one of this kind.
-fn goes_on(record: Record) -> bool {
-    match record {
-        Record::Head(_) => true,
-        Record::Channel(_) => true,
-        Record::State(_) => true,
-        Record::End => false,
-    }
-}
-
-fn printed(
-    rt: &impl Print,
-    run: &[u8],
-    record: Record,
-    place: usize,
-    next: usize,
-    counts: &mut [u16],
-) -> io::Result<()> {
-    let mut line = [0u8; 512];
-    let at = begin(place, &mut line);
-    let processes = head_of(run).processes;
-    let at = records::words(
-        part(run, place, next),
-        record,
-        processes,
-        counts,
-        at,
-        &mut line,
-    );
-    end(rt, at, &mut line)
-}
-
-// Prints the record at a place and gives the place after it, or else the same place again.
-fn record_line(rt: &impl Print, run: &[u8], place: usize, counts: &mut [u16]) -> io::Result<usize> {
-    let step = read_at(run, place);
-    match step {
-        Step::Got(record, next) => {
-            printed(rt, run, record, place, next, counts)?;
-            Ok(if goes_on(record) { next } else { place })
-        }
-        Step::Refused(_) => Ok(place),
-    }
-}
+use std::{io, iter};
 
 // All records up to one that begins at the last place; a record has a byte at least.
 fn lines(rt: &impl Print, run: &[u8], last: usize, counts: &mut [u16]) -> io::Result<()> {
-    let mut place: usize = 0;
-    let mut turns = run.len();
-    while turns > 0 {
-        let next = record_line(rt, run, place, counts)?;
-        if (next == place) | (last <= place) {
+    let first = read(run, 0);
+    for here in iter::successors(first, |here| following(run, *here)).take(run.len()) {
+        records::line(rt, run, here, counts)?;
+        if last <= here.place {
             break;
         }
-        place = next;
-        turns -= 1;
     }
     Ok(())
 }
 
-fn is_same(one: StateFields, other: StateFields) -> bool {
-    (one.event == other.event) & (one.channel == other.channel) & (one.message == other.message)
-}
-
-// Whether the record at a place is a state with this event and this message.
-fn is_state_like(run: &[u8], place: usize, f: StateFields) -> bool {
-    let step = read_at(run, place);
-    match step {
-        Step::Got(record, _) => match record {
-            Record::Head(_) => false,
-            Record::Channel(_) => false,
-            Record::State(g) => is_same(f, g),
-            Record::End => false,
-        },
-        Step::Refused(_) => false,
-    }
-}
-
-// The place after the record at a place.
-fn place_after(run: &[u8], place: usize) -> usize {
-    let step = read_at(run, place);
-    match step {
-        Step::Got(_, next) => next,
-        Step::Refused(_) => place,
-    }
-}
-
-// The first place at which the same is sent, or received, as at the last place: that place itself where there is none ahead of it.
-fn first_like(run: &[u8], last: usize, f: StateFields) -> usize {
-    let mut place: usize = 0;
-    let mut turns = run.len();
-    while turns > 0 && place < last {
-        if is_state_like(run, place, f) {
-            return place;
+// Whether it is a state with this event and this message.
+fn is_like(record: Record, f: StateFields) -> bool {
+    match record {
+        Record::State(g) => {
+            g.event == f.event && g.channel == f.channel && g.message == f.message
         }
-        place = place_after(run, place);
-        turns -= 1;
+        _ => false,
     }
-    last
+}
+
+// The first place ahead of the last at which the same is sent, or received, as there.
+fn first_like(run: &[u8], last: usize, f: StateFields) -> Option<usize> {
+    iter::successors(read(run, 0), |here| following(run, *here))
+        .take(run.len())
+        .take_while(|here| here.place < last)
+        .find(|here| is_like(here.record, f))
+        .map(|here| here.place)
 }
 
 // 11: where the other send or receive stands.
 fn pairing_line(rt: &impl Print, run: &[u8], place: usize, f: StateFields) -> io::Result<()> {
-    let mut line = [0u8; 64];
-    let at = begin(place, &mut line);
-    let first = first_like(run, place, f);
-    if first == place {
-        let at = text(b" no send", at, &mut line);
-        return end(rt, at, &mut line);
+    match first_like(run, place, f) {
+        Some(first) => println!(rt; "{place} the other at {first}"),
+        None => println!(rt; "{place} no send"),
     }
-    let at = text(b" the other at", at, &mut line);
-    let at = spaced(first, at, &mut line);
-    end(rt, at, &mut line)
 }
 
-// 13: the clock that the rule gives state k of process p.
+// 13: the clock that the rule gives a state.
 fn clock_line(
     rt: &impl Print,
     index: &[u16],
     processes: u16,
     place: usize,
-    p: u16,
-    k: u16,
+    spot: Spot,
 ) -> io::Result<()> {
-    let mut line = [0u8; 128];
-    let at = begin(place, &mut line);
-    let mut at = text(b" clock by the rule", at, &mut line);
-    let mut i: u16 = 0;
-    while i < processes {
-        at = spaced(circles::number_of(index, p, k, i) as usize, at, &mut line);
-        i += 1;
-    }
-    end(rt, at, &mut line)
+    let clock = clock(index, spot).and_then(|clock| clock.get(..usize::from(processes)));
+    println!(rt;
+        "{place} clock by the rule{}",
+        Numbers(clock.unwrap_or_default())
+    )
 }
 
 // What more is said of 11, 12 and 13, whose record is a state.
@@ -153,19 +73,16 @@ fn more(
     refusal: Refusal,
     f: StateFields,
 ) -> io::Result<()> {
-    let number = refusal.number;
-    let k = circles::entry(counts, f.process);
-    match number {
-        11 => pairing_line(rt, run, refusal.place, f),
-        12 => circles::show(rt, run, index, f.process, k),
-        13 => clock_line(
-            rt,
-            index,
-            head_of(run).processes,
-            refusal.place,
-            f.process,
-            k,
-        ),
+    let (process, place) = (f.process, refusal.place);
+    // A state of a process that doesn't exist is refused by another number.
+    let Some(&number) = counts.get(usize::from(process)) else {
+        return Ok(());
+    };
+    let spot = Spot { process, number };
+    match refusal.number {
+        11 => pairing_line(rt, run, place, f),
+        12 => circles::show(rt, run, index, spot),
+        13 => clock_line(rt, index, head_of(run).processes, place, spot),
         _ => Ok(()),
     }
 }
@@ -178,16 +95,10 @@ fn refused(
     refusal: Refusal,
 ) -> io::Result<()> {
     refusals::show(rt, run, refusal)?;
-    let step = read_at(run, refusal.place);
-    match step {
-        Step::Got(record, _) => match record {
-            Record::Head(_) => Ok(()),
-            Record::Channel(_) => Ok(()),
-            Record::State(f) => more(rt, run, index, counts, refusal, f),
-            Record::End => Ok(()),
-        },
-        Step::Refused(_) => Ok(()),
+    if let Some(Record::State(f)) = read(run, refusal.place).map(|here| here.record) {
+        more(rt, run, index, counts, refusal, f)?;
     }
+    Ok(())
 }
 
 pub fn show(rt: &impl Print, run: &[u8]) -> io::Result<()> {

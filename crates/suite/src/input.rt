@@ -3,105 +3,75 @@
 // A case is, little-endian: the question (1 byte), the lent places, or for all channels those of the counts (1) and of the stamps (1), or the channel or the
 // byte place asked (2), the number of cut numbers (2), the length of the run (4), the length of the condition (4), then the cut numbers (2 each), the run,
 // the condition.
-ghost use Rattle.std.specs.Prelude.{◌≤◌, length};
-ghost use Rattle.io.specs.Counts.{IsPrefixLen};
-
-use record::bytes::{u16_at, u32_at};
+use files::fill;
 use std::io::Read;
 
 #[derive(Clone, Copy)]
-pub struct Case {
+pub struct Case<'a> {
     pub question: u8,
     pub extra: u16,
-    pub numbers: usize,
-    pub run: usize,
-    pub cond: usize,
+    pub cut: &'a [u16],
+    pub run: &'a [u8],
+    pub cond: &'a [u8],
 }
 
-#[derive(Clone, Copy)]
-pub enum Next {
-    Case(Case),
-    Short,
-    Ended,
+// Where the parts of a case come to stand.
+#[derive(Drop)]
+pub struct Room {
+    pub cut: [u16; 24],
+    pub run: [u8; 66000],
+    pub cond: [u8; 66000],
 }
 
-fn case_of(head: &[u8]) -> Case
-    requires { 13 ≤ length head.now }
-{
-    let question = head[0];
-    let extra = u16_at(head, 1);
-    let numbers = u16_at(head, 3) as usize;
-    let run = u32_at(head, 5) as usize;
-    let cond = u32_at(head, 9) as usize;
-    Case {
+// The input ends within a case, or a part is longer than its room.
+#[derive(Drop)]
+pub struct Short;
+
+// Reads n bytes to the front of the buffer.
+fn read_part<'a>(input: &mut impl Read, buffer: &'a mut [u8], n: usize) -> Result<&'a [u8], Short> {
+    let part = buffer.get_mut(..n).ok_or(Short)?;
+    let (came, _) = fill(input, part);
+    if came < n {
+        return Err(Short);
+    }
+    Ok(part)
+}
+
+// Reads n numbers to the front of the row, two bytes each.
+fn read_numbers<'a>(
+    input: &mut impl Read,
+    row: &'a mut [u16],
+    n: usize,
+) -> Result<&'a [u16], Short> {
+    let mut bytes = [0u8; 48];
+    let numbers = row.get_mut(..n).ok_or(Short)?;
+    let (pairs, _) = read_part(input, &mut bytes, 2 * n)?.as_chunks();
+    for (number, pair) in numbers.iter_mut().zip(pairs) {
+        *number = u16::from_le_bytes(*pair);
+    }
+    Ok(numbers)
+}
+
+// The next case; none where the input ends ahead of it.
+pub fn next_case<'a>(input: &mut impl Read, room: &'a mut Room) -> Result<Option<Case<'a>>, Short> {
+    let mut head = [0u8; 13];
+    let (came, _) = fill(input, &mut head);
+    if came == 0 {
+        return Ok(None);
+    }
+    if came < head.len() {
+        return Err(Short);
+    }
+    let [question, e0, e1, n0, n1, r0, r1, r2, r3, c0, c1, c2, c3] = head;
+    let Room { cut, run, cond } = room;
+    let cut = read_numbers(input, cut, usize::from(u16::from_le_bytes([n0, n1])))?;
+    let run = read_part(input, run, u32::from_le_bytes([r0, r1, r2, r3]) as usize)?;
+    let cond = read_part(input, cond, u32::from_le_bytes([c0, c1, c2, c3]) as usize)?;
+    Ok(Some(Case {
         question,
-        extra,
-        numbers,
+        extra: u16::from_le_bytes([e0, e1]),
+        cut,
         run,
         cond,
-    }
-}
-
-// Reads until the buffer is full, the input ends or a read fails, and answers how many bytes came to its front.
-fn read_full(input: &mut impl Read, buffer: &mut [u8]) -> usize
-    ensures { IsPrefixLen result buffer.new }
-{
-    let mut at: usize = 0;
-    while at < buffer.len() {
-        match input.read(&mut buffer[at..]) {
-            Ok(0) => break,
-            Ok(n) => at += n,
-            Err(_) => break,
-        }
-    }
-    at
-}
-
-pub fn next_case(input: &mut impl Read) -> Next {
-    let mut head = [0u8; 13];
-    let got = read_full(input, &mut head);
-    if got == 0 {
-        return Next::Ended;
-    }
-    if got < 13 {
-        return Next::Short;
-    }
-    Next::Case(case_of(&head))
-}
-
-// Reads n bytes to the front of the buffer and answers how many came; none where n is more than the buffer holds.
-pub fn read_part(input: &mut impl Read, buffer: &mut [u8], n: usize) -> usize
-    ensures { IsPrefixLen result buffer.new }
-{
-    if buffer.len() < n {
-        return 0;
-    }
-    read_full(input, &mut buffer[..n])
-}
-
-// The numbers that the bytes hold, two bytes each.
-fn take_numbers(bytes: &[u8], numbers: &mut [u16]) {
-    let mut i: usize = 0;
-    while i < numbers.len() {
-        if bytes.len() < 2 * i + 2 {
-            break;
-        }
-        numbers[i] = u16_at(bytes, 2 * i);
-        i += 1;
-    }
-}
-
-// Reads n numbers to the front of the row and answers n; none where they are not there, or n is more than the row holds.
-pub fn read_numbers(input: &mut impl Read, row: &mut [u16], n: usize) -> usize
-    ensures { IsPrefixLen result row.new }
-{
-    let mut bytes = [0u8; 48];
-    if row.len() < n {
-        return 0;
-    }
-    if read_part(input, &mut bytes, 2 * n) != 2 * n {
-        return 0;
-    }
-    take_numbers(&bytes, row);
-    n
+    }))
 }

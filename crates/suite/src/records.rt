@@ -1,40 +1,31 @@
 // What stands in a run at a place, by the reader.
-use crate::printing::{number, print_verdict, spaced, text};
-use record::{ChannelFields, Head, Record, StateFields, Step};
+use crate::printing::print_verdict;
+use record::{Record, Step};
 use std::io;
-
-fn head_line(rt: &impl Print, head: Head) -> io::Result<()> {
-    text(rt, b"record head")?;
-    spaced(rt, head.processes)?;
-    spaced(rt, head.channels)
-}
-
-fn channel_line(rt: &impl Print, line: ChannelFields) -> io::Result<()> {
-    text(rt, b"record channel")?;
-    spaced(rt, line.number)?;
-    spaced(rt, line.from)?;
-    spaced(rt, line.to)
-}
-
-fn state_line(rt: &impl Print, f: StateFields) -> io::Result<()> {
-    text(rt, b"record state")?;
-    spaced(rt, f.process)?;
-    spaced(rt, f.event)?;
-    spaced(rt, f.channel)?;
-    number(rt, f.message as usize)?;
-    number(rt, f.stamp as usize)
-}
 
 fn record_line(rt: &impl Print, record: Record, next: usize) -> io::Result<()> {
     match record {
-        Record::Head(head) => head_line(rt, head)?,
-        Record::Channel(line) => channel_line(rt, line)?,
-        Record::State(f) => state_line(rt, f)?,
-        Record::End => text(rt, b"record end")?,
+        Record::Head(head) => {
+            println!(rt;
+                "record head {} {} next {next}",
+                head.processes, head.channels
+            )
+        }
+        Record::Channel(line) => {
+            println!(rt;
+                "record channel {} {} {} next {next}",
+                line.number, line.from, line.to
+            )
+        }
+        Record::State(f) => {
+            let (process, event, channel) = (f.process, f.event, f.channel);
+            println!(rt;
+                "record state {process} {event} {channel} {} {} next {next}",
+                f.message, f.stamp
+            )
+        }
+        Record::End => println!(rt; "record end next {next}"),
     }
-    text(rt, b" next")?;
-    number(rt, next)?;
-    text(rt, b"\n")
 }
 
 fn step_at(run: &[u8], place: u16) -> Step {

@@ -1,38 +1,25 @@
 // The answer to one question.
-ghost use Rattle.std.specs.Prelude.{◌≤◌, length};
-
-use crate::printing::{places_line, print_answer, print_count, print_verdict, stamps_line, text};
+use crate::input::Case;
+use crate::printing::{places_line, print_answer, print_count, print_verdict, stamps_line};
 use crate::{records, shown};
-use record::bytes::signed_of;
 use record::reading::head_of;
 use std::io;
 
 // What a lent place holds before the search shows whether the search has written there.
-fn lend(places: &mut [u16])
-    requires { length places.old ≤ 24 }
-{
-    let mut i: usize = 0;
-    while i < places.len() {
-        places[i] = 60000 + i as u16;
-        i += 1;
+fn lend(places: &mut [u16]) {
+    for (place, number) in places.iter_mut().zip(60000..) {
+        *place = number;
     }
 }
 
-// The same of a row of stamps, which count down from -60000: that is 4294907296 of an unsigned number's.
-fn lend_stamps(stamps: &mut [i32])
-    requires { length stamps.old ≤ 24 }
-{
-    let mut i: usize = 0;
-    while i < stamps.len() {
-        let stamp = signed_of(4294907296 - i as u32);
-        stamps[i] = stamp;
-        i += 1;
+// The same of a row of stamps, which count down.
+fn lend_stamps(stamps: &mut [i32]) {
+    for (stamp, number) in stamps.iter_mut().zip((i32::MIN..=-60000).rev()) {
+        *stamp = number;
     }
 }
 
-fn search(rt: &impl Print, run: &[u8], cond: &[u8], places: &mut [u16]) -> io::Result<()>
-    requires { length places.old ≤ 24 }
-{
+fn search(rt: &impl Print, run: &[u8], cond: &[u8], places: &mut [u16]) -> io::Result<()> {
     let mut counts = [0u16; 16];
     let mut stamps = [0i32; 16];
     lend(places);
@@ -48,9 +35,7 @@ fn channels(run: &[u8], places: &[u16], counts: &mut [u16], stamps: &mut [i32]) 
 }
 
 // The same in two calls, one for the cut and one for the channels.
-fn search_apart(rt: &impl Print, run: &[u8], cond: &[u8], places: &mut [u16]) -> io::Result<()>
-    requires { length places.old ≤ 24 }
-{
+fn search_apart(rt: &impl Print, run: &[u8], cond: &[u8], places: &mut [u16]) -> io::Result<()> {
     let mut counts = [0u16; 16];
     let mut stamps = [0i32; 16];
     lend(places);
@@ -60,13 +45,6 @@ fn search_apart(rt: &impl Print, run: &[u8], cond: &[u8], places: &mut [u16]) ->
     places_line(rt, places)
 }
 
-// A case lends at most 24 places.
-fn lent(extra: u16) -> usize
-    ensures { result ≤ 24 }
-{
-    if extra < 24 { extra as usize } else { 24 }
-}
-
 // How many messages are on each channel at a given cut, and the lowest of their stamps, into lent places that may be too few.
 fn each_in(
     rt: &impl Print,
@@ -74,14 +52,12 @@ fn each_in(
     cut: &[u16],
     counts: &mut [u16],
     stamps: &mut [i32],
-) -> io::Result<()>
-    requires { (length counts.old ≤ 24) × (length stamps.old ≤ 24) }
-{
+) -> io::Result<()> {
     lend(counts);
     lend_stamps(stamps);
     let told = questions::listing::messages_on_each(run, cut, counts, stamps);
     match told {
-        Ok(()) => text(rt, b"counted\n")?,
+        Ok(()) => println!(rt; "counted")?,
         Err(refusal) => print_verdict(rt, Err(refusal))?,
     }
     places_line(rt, counts)?;
@@ -92,22 +68,24 @@ fn each_in(
 fn each(rt: &impl Print, run: &[u8], cut: &[u16], extra: u16) -> io::Result<()> {
     let mut counts = [0u16; 24];
     let mut stamps = [0i32; 24];
-    let n = lent(extra % 256);
-    let m = lent(extra / 256);
+    let [n, m] = extra.to_le_bytes();
+    let n = counts.len().min(usize::from(n));
+    let m = stamps.len().min(usize::from(m));
     each_in(rt, run, cut, &mut counts[..n], &mut stamps[..m])
 }
 
-fn asked<'a>(
-    rt: &impl Print,
-    question: u8,
-    extra: u16,
-    run: &'a [u8],
-    cond: &'a [u8],
-    cut: &[u16],
-    places: &mut [u16],
-) -> io::Result<()>
-    requires { length places.old ≤ 24 }
-{
+// A case lends at most 24 places.
+pub fn answer<'a>(rt: &impl Print, case: Case<'a>) -> io::Result<()> {
+    let Case {
+        question,
+        extra,
+        cut,
+        run,
+        cond,
+    } = case;
+    let mut room = [0u16; 24];
+    let n = room.len().min(usize::from(extra));
+    let places = &mut room[..n];
     match question {
         1 => search(rt, run, cond, places),
         2 => print_verdict(rt, questions::consistency::is_consistent(run, cut)),
@@ -118,17 +96,4 @@ fn asked<'a>(
         7 => each(rt, run, cut, extra),
         _ => records::answer(rt, run, extra),
     }
-}
-
-pub fn answer<'a>(
-    rt: &impl Print,
-    question: u8,
-    extra: u16,
-    run: &'a [u8],
-    cond: &'a [u8],
-    cut: &[u16],
-) -> io::Result<()> {
-    let mut room = [0u16; 24];
-    let n = lent(extra);
-    asked(rt, question, extra, run, cond, cut, &mut room[..n])
 }

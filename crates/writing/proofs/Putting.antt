@@ -1,12 +1,13 @@
 -- Bytes put one after the other are put as one.
 use mathlib.Core.Path.{◌≡◌, refl, sym, ap, ◌∙◌}
 use mathlib.Core.Logic.{⊎_elim}
-use mathlib.Core.List.{List, [], ◌∷◌, ◌++◌}
-use Prim.Native.Nat.{ℕ, suc, ◌+◌, ◌≤◌, ◌<◌, min}
+use mathlib.Core.List.{List, [], ◌∷◌, ◌++◌, append_assoc}
+use Prim.Native.Nat.{ℕ, zero, suc, ◌+◌, ◌-◌, ◌≤◌, ◌<◌, min}
 use native.Mathlib.Numerals.{add-one}
 use native.Mathlib.Omega.{arith}
-use lib.ListN.{length, get_or, take, set, length-append}
-use lib.Seq.{take_all, take-suc, set_out, sets, length-sets}
+use borrow.Rule.Slice.PartMut.{put_mid}
+use lib.ListN.{length, take, drop, set, length-append, length-set, length-take}
+use lib.Seq.{drop-drop, set_out, sets, sets-eq, length-sets}
 use Rattle.model.proofs.Lists.{le_or_lt}
 use Rattle.writing.specs.Stored.{Put, last}
 use Rattle.writing.proofs.Lines.{lines_to}
@@ -21,18 +22,35 @@ sets_append b at (a ∷ x) y =
     let e : suc at + length x ≡ at + suc (length x) = omega arith in
     sets_append (set b at a) (suc at) x y ∙ ap (λ (k : ℕ). sets (sets (set b at a) (suc at) x) k y) e
 
--- the place may have stopped at the last number, where nothing is stored any more
-sets_stopped : (b : List ℕ) (place : ℕ) (y : List ℕ) → length b < last → sets b (min place last) y ≡ sets b place y
-sets_stopped b place y h = ⊎_elim
-    (λ g. let e : min place last ≡ place = omega arith in ap (λ (k : ℕ). sets b k y) e)
-    (λ g. sets_out b (min place last) y (omega arith) ∙ sym (sets_out b place y (omega arith)))
-    (le_or_lt place last)
+-- the place may have stopped past the end, where nothing is stored any more
+sets_stopped : (b : List ℕ) (place stop : ℕ) (y : List ℕ) → length b ≤ stop → sets b (min place stop) y ≡ sets b place y
+sets_stopped b place stop y h = ⊎_elim
+    (λ g. let e : min place stop ≡ place = omega arith in ap (λ (k : ℕ). sets b k y) e)
+    (λ g. sets_out b (min place stop) y (omega arith) ∙ sym (sets_out b place y (omega arith)))
+    (le_or_lt place stop)
+
+-- what doesn't fit isn't stored
+sets_cut : (b : List ℕ) (at n : ℕ) (x : List ℕ) → min (length x) (length b - at) ≤ n → sets b at x ≡ sets b at (take n x)
+sets_cut b at zero [] h = refl
+sets_cut b at (suc n) [] h = refl
+sets_cut b at zero (a ∷ x) h = sets_out b at (a ∷ x) (omega arith)
+sets_cut b at (suc n) (a ∷ x) h = sets_cut (set b at a) (suc at) n x (omega (arith, length-set b at a))
+
+-- what fits is copied
+sets-copy : (b : List ℕ) (at start k : ℕ) (x y : List ℕ) → start ≡ min at (length b) → k ≡ min (length x) (length b - start) → y ≡ take k x
+    → sets b at x ≡ put_mid start k b y
+sets-copy b at start k x y s m e =
+    let long : length y ≡ k = ap length e ∙ length-take k x ∙ omega arith in
+    let first : sets b start x ≡ sets b at x = rw s (sets_stopped b at (length b) x (omega arith)) in
+    sym first ∙ sets_cut b start k x (omega arith) ∙ ap (sets b start) (sym e) ∙ sets-eq y b start (omega arith) ∙ append_assoc (take start b) y (drop (start + length y) b)
+    ∙ ap (λ l. take start b ++ (y ++ l)) (ap (λ n. drop (start + n) b) long ∙ sym (drop-drop k start b))
 
 pub put_none : {b : List ℕ} {at : ℕ} → length b < last → at ≤ last → Put [] at at b b
 put_none h g = record { short = h; end = omega arith; stored = refl }
 
-pub put_one : {b b' : List ℕ} {a at next : ℕ} → length b < last → next ≡ min (at + 1) last → b' ≡ set b at a → Put (a ∷ []) at next b b'
-put_one h p s = record { short = h; end = p; stored = s }
+pub put_copied : {b b' x y : List ℕ} {at start k next : ℕ} → length b < last → start ≡ min at (length b) → k ≡ min (length x) (length b - start) → y ≡ take k x
+    → next ≡ min (at + length x) last → b' ≡ put_mid start k b y → Put x at next b b'
+put_copied {b} {x = x} {y} {at} {start} {k} h s m e p w = record { short = h; end = p; stored = w ∙ sym (sets-copy b at start k x y s m e) }
 
 pub put_then : {x y b b₁ b₂ : List ℕ} {at middle next : ℕ} → Put x at middle b b₁ → Put y middle next b₁ b₂ → Put (x ++ y) at next b b₂
 put_then {x} {y} {b} {b₁} {b₂} {at} {middle} {next} p q = record {
@@ -40,7 +58,7 @@ put_then {x} {y} {b} {b₁} {b₂} {at} {middle} {next} p q = record {
   end = let e = length-append x y in omega (arith, p.end, q.end);
   stored = q.stored
       ∙ ap (λ (k : ℕ). sets b₁ k y) p.end
-      ∙ sets_stopped b₁ (at + length x) y q.short
+      ∙ sets_stopped b₁ (at + length x) last y (omega (arith, q.short))
       ∙ ap (λ (l : List ℕ). sets l (at + length x) y) p.stored
       ∙ sym (sets_append b at x y);
 }
@@ -51,17 +69,6 @@ put_same p q = (p.end ∙ sym q.end, p.stored ∙ sym q.stored)
 
 pub put_long : {x b b₁ : List ℕ} {at next : ℕ} → Put x at next b b₁ → length b₁ ≡ length b
 put_long {x} {b} {at = at} p = rw p.stored (length-sets b at x)
-
--- ---- a text byte by byte
-
-module _ (x : List ℕ) {b b₁ : List ℕ} {i at middle : ℕ} (p : Put (take i x) at middle b b₁) where
-  pub put_next : {b₂ : List ℕ} {next : ℕ} → i < length x → next ≡ min (middle + 1) last → b₂ ≡ set b₁ middle (get_or x i 0) → Put (take (i + 1) x) at next b b₂
-  put_next h n s =
-      let e : take (i + 1) x ≡ take i x ++ (get_or x i 0 ∷ []) = rw (add-one, take-suc x i 0 h) refl in
-      rw e (put_then p (put_one (omega (arith, put_long p, p.short)) n s))
-
-  pub put_all : length x ≤ i → Put x at middle b b₁
-  put_all h = rw (take_all i x h) at p
 
 -- ---- line by line
 

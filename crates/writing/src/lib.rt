@@ -1,37 +1,17 @@
 // Bytes put into a buffer from its byte `at` on, as far as it reaches. Where they end is told in any case.
 #![tactic(auto)]
 
-ghost use Rattle.std.specs.Prelude.{◌+◌, min, ◌≡◌, set};
 ghost use Rattle.writing.specs.Text.{decimal, pair_line, row_lines, signed as Lines·signed, spaced as Lines·spaced};
-ghost use Rattle.writing.specs.Stored.{Put, last};
+ghost use Rattle.writing.specs.Stored.{Put};
 
-// Past the buffer nothing is stored.
-fn store(byte: u8, at: usize, buffer: &mut [u8])
-    ensures { buffer.new ≡ set buffer.old at byte }
-{
-    if at < buffer.len() {
-        buffer[at] = byte;
-    }
-}
-
-// The largest number stays: no buffer reaches as far.
-fn after(at: usize) -> usize
-    ensures { result ≡ min (at + 1) last }
-{
-    if at < usize::MAX { at + 1 } else { at }
-}
-
+// Past the buffer nothing is stored, and the largest number stays: no buffer reaches as far.
 pub fn text(words: &[u8], at: usize, buffer: &mut [u8]) -> usize
     ensures { Put words.now at result buffer.old buffer.new }
 {
-    let mut next = at;
-    let mut i: usize = 0;
-    while i < words.len() {
-        store(words[i], next, buffer);
-        next = after(next);
-        i += 1;
-    }
-    next
+    let start = at.min(buffer.len());
+    let n = words.len().min(buffer.len() - start);
+    buffer[start..start + n].copy_from_slice(&words[..n]);
+    at.saturating_add(words.len())
 }
 
 pub fn number(n: usize, at: usize, buffer: &mut [u8]) -> usize
@@ -42,15 +22,13 @@ pub fn number(n: usize, at: usize, buffer: &mut [u8]) -> usize
     text(&digits[..k], at, buffer)
 }
 
-// `-5`: the bits of a negative number, each the other way, are one less than its size.
+// `-5`
 pub fn signed(x: i32, at: usize, buffer: &mut [u8]) -> usize
     ensures { Put (Lines·signed x) at result buffer.old buffer.new }
 {
-    if x < 0 {
-        let next = text(b"-", at, buffer);
-        return number((!x) as usize + 1, next, buffer);
-    }
-    number(x as usize, at, buffer)
+    let sign: &[u8] = if x < 0 { b"-" } else { b"" };
+    let next = text(sign, at, buffer);
+    number(x.unsigned_abs() as usize, next, buffer)
 }
 
 // ` 7`: a number after a word.
@@ -71,21 +49,13 @@ pub fn pair_line(word: &[u8], a: usize, b: usize, at: usize, buffer: &mut [u8]) 
     text(b"\n", end, buffer)
 }
 
-fn place_line(word: &[u8], i: usize, number: u16, at: usize, buffer: &mut [u8]) -> usize
-    ensures { Put (pair_line word.now i number) at result buffer.old buffer.new }
-{
-    pair_line(word, i, number as usize, at, buffer)
-}
-
 // A line for each place: a process and its state, or a channel and its messages.
 pub fn row_lines(word: &[u8], row: &[u16], at: usize, buffer: &mut [u8]) -> usize
     ensures { Put (row_lines word.now 0 row.now) at result buffer.old buffer.new }
 {
     let mut next = at;
-    let mut i: usize = 0;
-    while i < row.len() {
-        next = place_line(word, i, row[i], next, buffer);
-        i += 1;
+    for (i, &number) in row.iter().enumerate() {
+        next = pair_line(word, i, usize::from(number), next, buffer);
     }
     next
 }

@@ -1,45 +1,41 @@
--- `signed` meets its contract: the bits of a number below 0, each the other way, are its size less one.
-use borrow.Author.Tests.{lt-ltb, ltb-true}
-use native.Mathlib.Numerals.{add-one}
-use native.Mathlib.Omega.{arith}
-use mathlib.Core.Bool.{true, false, true≢false}
-use mathlib.Core.Path.{◌≡◌, refl}
-use Prim.Native.Nat.{ℕ, suc, ◌-◌, ◌<◌}
-use lib.IntN.{ℤ, pos, negsuc}
+-- `signed` meets its contract: a number below 0 is a minus and its size, any other its size.
+use Rattle.std.proofs.Common.{List, ◌≡◌, ℕ, ℤ, pos, negsuc, true, false, ◌∷◌, FitsSigned, w32, to_z, of_z, refl, ap, ◌∙◌, arith}
+use Rattle.std.proofs.Math.IntN.{nat_abs}
+use borrow.Author.Tests.{ltb-true}
 use lib.Signed.{lt_z}
 use mir.Facts.{to_z-of_z}
-use mir.Syntax.{w32}
-use mir.Val.{SFits, of_z, to_z}
-use Rattle.writing.specs.Text.{bytes, signed}
+use Rattle.writing.specs.Stored.{Put}
+use Rattle.writing.specs.Text.{bytes, decimal, signed}
 use Rattle.writing.proofs.Putting.{put_then}
 use Rattle.writing.proofs.signed.Goals as goal
+use Rattle.writing.proofs.signed.Goals.{then-x-lt0, else-x-lt0}
 
-below : (z : ℤ) → SFits w32 z → lt_z z (pos 0) ≡ true → (n : ℕ) × (z ≡ negsuc n) × (to_z w32 (4294967295 - of_z w32 z) ≡ pos n) × (n < 2147483648)
-below (pos n) fits e = absurd (omega (arith, ltb-true n 0 e))
-below (negsuc n) fits e =
-    let flipped : 4294967295 - (4294967296 - suc n) ≡ n = omega (arith, fits.sfits) in
-    (n, refl, rw (flipped, lt-ltb n 2147483648 fits.sfits) refl, fits.sfits)
-
-above : (z : ℤ) → SFits w32 z → lt_z z (pos 0) ≡ false → (n : ℕ) × (z ≡ pos n) × (n < 2147483648)
-above (pos n) fits e = (n, refl, fits.sfits)
-above (negsuc n) fits e = absurd (true≢false e)
-
--- what the two tests say of the number passed
-negative : (z : ℤ) → SFits w32 z → lt_z (to_z w32 (of_z w32 z)) (pos 0) ≡ true
-    → (n : ℕ) × (z ≡ negsuc n) × (to_z w32 (4294967295 - of_z w32 z) ≡ pos n) × (n < 2147483648)
-negative z fits taken = below z fits (rw (to_z-of_z {w = w32} {z = z} fits) at taken)
-
-positive : (z : ℤ) → SFits w32 z → lt_z (to_z w32 (of_z w32 z)) (pos 0) ≡ false → (n : ℕ) × (z ≡ pos n) × (n < 2147483648)
-positive z fits left = above z fits (rw (to_z-of_z {w = w32} {z = z} fits) at left)
-
-pub returns-then-x-lt0 : goal.returns-then-x-lt0
+below : (z : ℤ) → lt_z z (pos 0) ≡ true → 45 ∷ decimal (nat_abs z) ≡ signed z
 unfolding signed bytes
-returns-then-x-lt0 c =
-    let (n, below-zero, e, _) = negative c.args.x c.ranges.x c.if-x-lt0.true in
-    rw (below-zero, ← (add-one n)) (put_then c.text-next.ensures (rw e at c.number.ensures))
+below (pos n) h = absurd (omega (arith, ltb-true n 0 h))
+below (negsuc n) h = refl
+
+above : (z : ℤ) → lt_z z (pos 0) ≡ false → decimal (nat_abs z) ≡ signed z
+unfolding signed
+above (pos n) h = refl
+above (negsuc n) h = cc
+
+-- the number as it is tested is the number
+module _ (x : ℤ) (fits : FitsSigned w32 x) {n : ℕ} (size : n ≡ nat_abs (to_z w32 (of_z w32 x))) where
+  negative : lt_z (to_z w32 (of_z w32 x)) (pos 0) ≡ true → 45 ∷ decimal n ≡ signed x
+  negative h = rw size (below (to_z w32 (of_z w32 x)) h) ∙ ap signed (to_z-of_z fits)
+
+  positive : lt_z (to_z w32 (of_z w32 x)) (pos 0) ≡ false → decimal n ≡ signed x
+  positive h = rw size (above (to_z w32 (of_z w32 x)) h) ∙ ap signed (to_z-of_z fits)
+
+put_as : {x y b b' : List ℕ} {at next : ℕ} → Put x at next b b' → x ≡ y → Put y at next b b'
+put_as p e = rw e at p
 
 pub returns : goal.returns
-unfolding signed
 returns c =
-    let (n, e, _) = positive c.args.x c.ranges.x c.if-x-lt0.false in
-    rw e (rw (to_z-of_z {w = w32} {z = c.args.x} c.ranges.x, e) at c.number-2.ensures)
+    let put = put_then c.text-next.ensures c.number.ensures in
+    let size = c.unsigned_abs.ensures.value in
+    elim c.if-x-lt0.branch [
+      | then-x-lt0 w ↦ put_as put (rw w.sign-is (negative c.args.x c.ranges.x size w.if-x-lt0.true))
+      | else-x-lt0 w ↦ put_as put (rw w.sign-is (positive c.args.x c.ranges.x size w.if-x-lt0.false))
+    ]

@@ -1,5 +1,5 @@
 use Rattle.std.proofs.Common.{length, ◌-◌, ◌≤◌}
-use Rattle.files.proofs.read_all.Given as goal
+use Rattle.files.proofs.fill.Given as goal
 
 -- what is read stands within the buffer
 abbrev pub invariant-loop-at : goal.invariant-loop-at

@@ -1,5 +1,0 @@
-use Rattle.suite.proofs.all.Given as goal
-
--- how many turns are left
-abbrev pub decreases-loop-turns : goal.decreases-loop-turns
-decreases-loop-turns g l = l.turns
