@@ -1,3 +1,4 @@
+pub mod Finds
 pub mod Firsts
 pub mod Processes
 pub mod Pairs
