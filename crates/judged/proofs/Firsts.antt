@@ -48,7 +48,7 @@ module _ (s : List ℕ) (Fault : ℕ → ℕ → Type 0) where
 
   -- what `find` over the n states of a process tells
   pub first_of_found : (p n : ℕ) → n ≡ count (run_in s) p → (r : Option ℕ)
-      → MatchOption r ((k : ℕ) → 1 ≤ k → k ≤ n → ¬ Fault p k) (λ i. (1 ≤ i) × (i ≤ n) × Fault p i × ((k : ℕ) → 1 ≤ k → k < i → ¬ Fault p k))
+      → MatchOption r ((k : ℕ) → 1 ≤ k → k < n + 1 → ¬ Fault p k) (λ i. (1 ≤ i) × (i < n + 1) × Fault p i × ((k : ℕ) → 1 ≤ k → k < i → ¬ Fault p k))
       → FirstOf s Fault p r
   first_of_found p n e None w = record { there = tt; fault = tt; first = λ l t h. w l t.counted (omega (arith, t.there, e)) }
   first_of_found p n e (Some k) (a, b, f, w) = first_of_here p k (record { counted = a; there = omega (arith, b, e) }) f (λ l t h. w l t.counted h)

@@ -1,4 +1,4 @@
-pub mod Finds
+pub mod Ranges
 pub mod Firsts
 pub mod Processes
 pub mod Pairs

@@ -111,11 +111,11 @@ module _ (r : Run) (p k : ℕ) (sends : Bool) (m : Message) (marks : List ℕ) w
 
 -- what `find` over the states tells
 pub carrier_found : (r : Run) (p low high : ℕ) (sends : Bool) (m : Message) (x : Option ℕ)
-    → MatchOption x ((k : ℕ) → low ≤ k → k ≤ high → carries sends (into r p k) m ≡ false)
-    (λ i. (low ≤ i) × (i ≤ high) × (carries sends (into r p i) m ≡ true) × ((k : ℕ) → low ≤ k → k < i → carries sends (into r p k) m ≡ false))
+    → MatchOption x ((k : ℕ) → low ≤ k → k < high + 1 → carries sends (into r p k) m ≡ false)
+    (λ i. (low ≤ i) × (i < high + 1) × (carries sends (into r p i) m ≡ true) × ((k : ℕ) → low ≤ k → k < i → carries sends (into r p k) m ≡ false))
     → Carrier r p low high sends m x
-carrier_found r p low high sends m None h = absent (λ l a b. not_T_of (h l a b))
-carrier_found r p low high sends m (Some k) (a, b, e, w) = present k a b (T_of e)
+carrier_found r p low high sends m None h = absent (λ l a b. not_T_of (h l a (omega arith)))
+carrier_found r p low high sends m (Some k) (a, b, e, w) = present k a (omega arith) (T_of e)
 
 pub carrier_near : {r : Run} {p low high : ℕ} {sends : Bool} {m : Message} {k : ℕ} → 1 ≤ low → Carrier r p low high sends m (Some k) → Carrier r p 1 high sends m (Some k)
 carrier_near h (present k a c t) = present k (omega arith) c t

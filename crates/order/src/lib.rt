@@ -131,7 +131,7 @@ fn clock_fault(run: &[u8], index: &[u16], n: u16, p: u16) -> Option<u16>
     requires { Clocked run.now index.now n × (p < n) }
     ensures { FirstOf run.now (WrongClock run.now) p result }
 {
-    (1..=count_of(index, p)).find(|&k| differs(run, index, n, p, k))
+    (1..count_of(index, p) + 1).find(|&k| differs(run, index, n, p, k))
 }
 
 // Of every process, into `bad`.

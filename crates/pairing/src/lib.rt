@@ -23,7 +23,8 @@ fn is_same(m: Message, n: Message) -> bool
     (m.channel, m.number) == (n.channel, n.number)
 }
 
-// Whether an event sends, or receives, the message.
+// Whether an event sends, or receives, the message. `sends` is the side, as in the contracts' words: an event in its place would need arms in `mark_at` and
+// `repeated` for those that carry nothing.
 fn carries_it(event: Event, sends: bool, message: Message) -> bool
     ensures { result ≡ carries sends event message }
 {
@@ -47,7 +48,8 @@ fn find(
     requires { Stretch run.now index.now p low high }
     ensures { Carrier (run_in run.now) p low high sends message result }
 {
-    (low..=high).find(|&k| carries_it(event_at(run, index, p, k), sends, message))
+    // `low..=high` keeps a flag for its end, which costs a sixth more where pairing costs most.
+    (low..high + 1).find(|&k| carries_it(event_at(run, index, p, k), sends, message))
 }
 
 // The entry of the marks for what is sent, or received, on a channel.
@@ -83,7 +85,7 @@ fn repeated(
     }
 }
 
-// Where to look for the next send on a channel: behind the last one found.
+// Where to look for the next send on a channel: behind the last one found, which is 0 at first, a place ahead of all states.
 fn behind(hint: u16, count: u16) -> u16
     ensures { 1 ≤ result }
 {
@@ -144,7 +146,7 @@ fn settle(
     }
 }
 
-// The first faulty state of process p; what the states ahead of it receive is entered.
+// The first faulty state of process p; what the states ahead of it receive is entered. No `find`: it tells nothing of what its closure changes, here the index.
 fn pair_row(
     run: &[u8],
     index: &mut [u16],
@@ -164,7 +166,8 @@ fn pair_row(
     None
 }
 
-// Every process: its first faulty state into `bad`, and the partners.
+// Every process: its first faulty state into `bad`, and the partners. `clock_faults` and `undone` fill a row by such a loop too, of one line: a function for the
+// three would take that line as a closure, which here changes the index, the marks and the hints.
 pub fn pair_all(run: &[u8], index: &mut [u16], bad: &mut [Option<u16>], n: u16)
     requires { NewlyListed run.now index.old n × (length bad.old ≡ 8) }
     ensures processes_paired { ProcessesPaired (run_in run.now) n bad.new index.new }

@@ -1,13 +1,14 @@
 -- `clock_fault` meets its contract: what the closure answers at a state is whether its clock is wrong.
+use native.Mathlib.Omega.{arith}
 use mathlib.Core.Path.{◌≡◌, refl, ◌∙◌}
 use mathlib.Core.Bool.{true, false}
 use Rattle.std.proofs.Common.{rules}
 use Rattle.std.proofs.iter.Serving.{serving}
+use Rattle.std.proofs.lemmas.Iterator.{first_from_Range}
 use Rattle.model.specs.Run.{count}
 use Rattle.run.specs.Said.{run_in}
 use Rattle.judged.specs.Judged.{WrongClock}
 use Rattle.judged.specs.Order.{Compared}
-use Rattle.judged.proofs.Finds.{first_from_inclusive}
 use Rattle.judged.proofs.Firsts.{first_of_found}
 use Rattle.judged.proofs.Processes.{row_of}
 use Rattle.order.proofs.clock_fault.Goals as goal
@@ -31,9 +32,12 @@ returns c =
     let s = c.args.run.now in
     let p = c.args.p in
     let row = row_of w.listed w.all h in
-    let n = c.new.ensures in
-    first_of_found s (WrongClock s) p _ (c.count_of.ensures ∙ row.counted) _ (first_from_inclusive _ 1 c.count_of.result (WrongClock s p) (λ k. ¬ WrongClock s p k)
-    (λ x r g k. search rules)
-    (λ x k. let d : Compared s p x true = search rules in d.differs refl)
-    (λ x k. let d : Compared s p x false = search rules in d.agrees refl)
-    _ n.start n.end n.exhausted _ c.find.ensures.runs)
+    first_of_found s (WrongClock s) p _ (c.count_of.ensures ∙ row.counted) _ (first_from_Range _ _ _ _ (WrongClock s p) (λ k. ¬ WrongClock s p k) c.find.ensures.ran
+    (λ x r k. let d : Compared s p x true = search rules in d.differs refl)
+    (λ x r k. let d : Compared s p x false = search rules in (search rules, d.agrees refl)))
+
+pub overflow_add-count_of : goal.overflow_add-count_of
+overflow_add-count_of c =
+    let (w, h) = c.requires in
+    let row = row_of w.listed w.all h in
+    omega (arith, c.count_of.ensures, row.counted, row.few)

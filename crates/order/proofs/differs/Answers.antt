@@ -8,7 +8,7 @@ use Rattle.record.specs.Bytes.{u16_at}
 use Rattle.record.specs.Inner.{clock_place}
 use Rattle.run.specs.Index.{clock_in}
 use Rattle.run.proofs.Listed.{ok, short, listed_slot, listed_at, listed_whole}
-use Rattle.judged.proofs.Finds.{any_from_Range}
+use Rattle.judged.proofs.Ranges.{any_from_Range}
 use Rattle.judged.proofs.Orders.{compared}
 use Rattle.order.proofs.differs.Goals as goal
 
