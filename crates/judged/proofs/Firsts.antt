@@ -1,17 +1,20 @@
 -- The first record in file order: from the first faulty state of each process. Letters as in specs/Firsts.
-use mathlib.Core.Path.{◌≡◌, refl}
-use mathlib.Core.Logic.{inl, inr, ⊎_elim, ◌≢◌}
-use mathlib.Core.Bool.{Bool, true, false, cond}
-use mathlib.Core.List.{List}
-use Prim.Native.Nat.{ℕ, ◌+◌, ◌≤◌, ◌<◌}
-use native.Mathlib.Nat.{eq-or-lt_of_le}
-use native.Mathlib.Decide.{ℕ_discrete}
+use mathlib.Core.Path.{◌≡◌, refl, sym, ap, ◌∙◌, subst}
+use mathlib.Core.Logic.{⊎_elim}
+use mathlib.Core.List.{List, [], ◌∷◌, ◌++◌, append-nil}
+use Prim.Native.Nat.{ℕ, zero, suc, ◌+◌, ◌≤◌, ◌<◌, min}
+use native.Mathlib.Numerals.{add-one}
+use native.Mathlib.Nat.{add-zero, zero-add, eq-or-lt_of_le}
 use native.Mathlib.Omega.{arith}
-use borrow.Author.Tests.{ltb-true, ltb-false}
-use lib.Dec.{ltb}
 use lib.ListN.{length, get_or, set}
 use lib.Seq.{get_or-set_same, get_or-set_other}
-use Rattle.model.proofs.Numbers.{never, below_next}
+use Rattle.std.specs.Prelude.{Option, Some, None}
+use Rattle.std.specs.Option.{MatchOption, IfSome, option_map}
+use Rattle.std.specs.List.{reduce, filter_map, cons_option, range_with_len}
+use Rattle.std.proofs.lemmas.List.Elements.{filter_map-append}
+use Rattle.std.proofs.lemmas.List.Sums.{fold-append}
+use Rattle.std.proofs.lemmas.Option.{IfSome_then}
+use Rattle.model.proofs.Numbers.{below_next}
 use Rattle.model.specs.Run.{IsState, count}
 use Rattle.model.proofs.Lists.{le_or_lt}
 use Rattle.record.specs.Record.{head_of}
@@ -20,19 +23,18 @@ use Rattle.record.specs.Pass.Read.{accepted}
 use Rattle.run.specs.Said.{states_of, run_in, place_of}
 use Rattle.run.specs.Index.{Listed}
 use Rattle.run.proofs.Listed.{process_of, place_rises}
-use Rattle.judged.specs.declared.FirstFault.{FirstFault}
-use Rattle.judged.specs.declared.FirstFault.TheVariants.{Nothing, At}
 use Rattle.judged.specs.Judged.{FirstAt, Faultless}
-use Rattle.judged.specs.Firsts.{FirstOf, FirstsTo, Candidate, Earliest, lower_of, FirstJudged}
+use Rattle.judged.specs.Firsts.{FirstOf, FirstsTo, Candidate, Earliest, FirstJudged}
 use Rattle.judged.specs.Firsts.Earliest.{all_none, lowest}
 use Rattle.judged.specs.Firsts.FirstJudged.{faulty, faultless}
 
 -- one entry more of a table: what holds of it and of all before it
-pub each_next : (P : ℕ → ℕ → Type 0) (n k : ℕ) (bad : List ℕ) → n < length bad → P n k → ((p : ℕ) → p < n → P p (get_or bad p 0)) → (p : ℕ) → p < n + 1 → P p (get_or (set bad n k) p 0)
+pub each_next : (P : ℕ → Option ℕ → Type 0) (n : ℕ) (k : Option ℕ) (bad : List (Option ℕ)) → n < length bad → P n k → ((p : ℕ) → p < n → P p (get_or bad p None))
+    → (p : ℕ) → p < n + 1 → P p (get_or (set bad n k) p None)
 each_next P n k bad inside here before p h =
-    below_next (λ p. P p (get_or (set bad n k) p 0)) h
-    (rw (get_or-set_same bad n k 0 inside) here)
-    (λ g. rw (get_or-set_other bad n p k 0 (λ e. absurd (omega arith))) (before p g))
+    below_next (λ p. P p (get_or (set bad n k) p None)) h
+    (rw (get_or-set_same bad n k None inside) here)
+    (λ g. rw (get_or-set_other bad n p k None (λ e. absurd (omega arith))) (before p g))
 
 -- ---- the first of each process
 
@@ -41,83 +43,114 @@ module _ (s : List ℕ) (Fault : ℕ → ℕ → Type 0) where
   abbrev pub NoneAhead : ℕ → ℕ → Type 0
   NoneAhead p k = (l : ℕ) → IsState (run_in s) p l → l < k → ¬ Fault p l
 
-  pub none_next : (p k : ℕ) → ¬ Fault p k → NoneAhead p k → NoneAhead p (k + 1)
-  none_next p k n w l t h = below_next (λ l. ¬ Fault p l) h n (w l t)
+  pub first_of_here : (p k : ℕ) → IsState (run_in s) p k → Fault p k → NoneAhead p k → FirstOf s Fault p (Some k)
+  first_of_here p k t f w = record { there = t; fault = f; first = w }
 
-  pub first_of_here : (p k : ℕ) → IsState (run_in s) p k → Fault p k → NoneAhead p k → FirstOf s Fault p k
-  first_of_here p k t f w = record { there = λ n. t; fault = λ n. f; first = λ l u h. ⊎_elim (λ z. absurd (omega (arith, t.counted))) (w l u) h }
+  -- what `find` over the n states of a process tells
+  pub first_of_found : (p n : ℕ) → n ≡ count (run_in s) p → (r : Option ℕ)
+      → MatchOption r ((k : ℕ) → 1 ≤ k → k < n + 1 → ¬ Fault p k) (λ i. (1 ≤ i) × (i < n + 1) × Fault p i × ((k : ℕ) → 1 ≤ k → k < i → ¬ Fault p k))
+      → FirstOf s Fault p r
+  first_of_found p n e None w = record { there = tt; fault = tt; first = λ l t h. w l t.counted (omega (arith, t.there, e)) }
+  first_of_found p n e (Some k) (a, b, f, w) = first_of_here p k (record { counted = a; there = omega (arith, b, e) }) f (λ l t h. w l t.counted h)
 
-  pub first_of_none : (p k : ℕ) → count (run_in s) p < k → NoneAhead p k → FirstOf s Fault p 0
-  first_of_none p k h w = record { there = λ n. absurd (n refl); fault = λ n. absurd (n refl); first = λ l t z. w l t (omega (arith, t.there)) }
-
-  pub firsts_start : (bad : List ℕ) → FirstsTo s Fault 0 bad
+  pub firsts_start : (bad : List (Option ℕ)) → FirstsTo s Fault 0 bad
   firsts_start bad = record { each = λ p h. absurd (omega arith) }
 
-  pub firsts_next : (n k : ℕ) (bad : List ℕ) → n < length bad → FirstsTo s Fault n bad → FirstOf s Fault n k → FirstsTo s Fault (n + 1) (set bad n k)
+  pub firsts_next : (n : ℕ) (k : Option ℕ) (bad : List (Option ℕ)) → n < length bad → FirstsTo s Fault n bad → FirstOf s Fault n k → FirstsTo s Fault (n + 1) (set bad n k)
   firsts_next n k bad inside w v = record { each = each_next (FirstOf s Fault) n k bad inside v w.each }
 
-pub candidates : {s ix bad : List ℕ} {Fault : ℕ → ℕ → Type 0} {n : ℕ} → Listed s ix → length bad ≡ 8 → n ≡ (head_of s).processes → FirstsTo s Fault n bad
+pub candidates : {s ix : List ℕ} {bad : List (Option ℕ)} {Fault : ℕ → ℕ → Type 0} {n : ℕ} → Listed s ix → length bad ≡ 8 → n ≡ (head_of s).processes → FirstsTo s Fault n bad
     → (p : ℕ) → p < n → Candidate s ix bad p
 candidates listed eight all w p h = record { listed = listed; eight = eight; process = omega arith; there = (w.each p h).there }
 
 -- ---- the lowest place
 
-module _ (s bad : List ℕ) where
+abbrev lower_of : Option ℕ → ℕ → ℕ
+lower_of None x = x
+lower_of (Some y) x = min y x
+
+reduce_next : (xs : List ℕ) (y : ℕ) → reduce min (xs ++ (y ∷ [])) ≡ Some (lower_of (reduce min xs) y)
+reduce_next [] y = refl
+reduce_next (x ∷ xs) y = ap Some (fold-append min x xs (y ∷ []))
+
+range_next : (a n : ℕ) → range_with_len a (suc n) ≡ range_with_len a n ++ ((a + n) ∷ [])
+range_next a zero = rw (add-zero a) refl
+range_next a (suc n) = let e : a + 1 + n ≡ a + suc n = omega arith in ap {B = List ℕ} (λ l. a ∷ l) (range_next (a + 1) n ∙ ap (λ x. range_with_len (a + 1) n ++ (x ∷ [])) e)
+
+module _ (s : List ℕ) (bad : List (Option ℕ)) where
   -- a place that isn't above that of the state of process p, where it has one
   abbrev UpTo : ℕ → ℕ → Type 0
-  UpTo x p = get_or bad p 0 ≢ 0 → x ≤ place_of s p (get_or bad p 0)
+  UpTo x p = IfSome (get_or bad p None) (λ l. x ≤ place_of s p l)
 
-  pub earliest_start : Earliest s 0 bad Nothing
-  earliest_start = all_none (λ p h. absurd (omega arith))
+  skip : (p : ℕ) (f : Option ℕ) → get_or bad p None ≡ None → Earliest s p bad f → Earliest s (p + 1) bad f
+  skip p f z (all_none w) = all_none (λ q h. below_next (λ q. get_or bad q None ≡ None) h z (w q))
+  skip p f z (lowest x q k h n e w) = lowest x q k (omega arith) n e (λ i g. below_next (UpTo x) g (rw z tt) (w i))
 
-  pub earliest_skip : (p : ℕ) (f : FirstFault) → get_or bad p 0 ≡ 0 → Earliest s p bad f → Earliest s (p + 1) bad f
-  earliest_skip p f z (all_none w) = all_none (λ q h. below_next (λ q. get_or bad q 0 ≡ 0) h z (w q))
-  earliest_skip p f z (lowest x q h n e w) = lowest x q (omega arith) n e (λ i g. below_next (UpTo x) g (λ m. absurd (m z)) (w i))
-
-  pub earliest_take : (p : ℕ) (f : FirstFault) (y : ℕ) → get_or bad p 0 ≢ 0 → y ≡ place_of s p (get_or bad p 0) → Earliest s p bad f → Earliest s (p + 1) bad (lower_of f y)
-  earliest_take p f y n e (all_none w) = lowest y p (omega arith) n e (λ i g. below_next (UpTo y) g (λ m. omega (arith, e)) (λ l m. absurd (m (w i l))))
-  earliest_take p f y n e (lowest x q h m d w) = go (ltb y x) refl
+  take : (p k : ℕ) (f : Option ℕ) → get_or bad p None ≡ Some k → Earliest s p bad f → Earliest s (p + 1) bad (Some (lower_of f (place_of s p k)))
+  take p k f z (all_none w) =
+      let y = place_of s p k in
+      lowest y p k (omega arith) z refl (λ i g. below_next (UpTo y) g (rw z (omega arith)) (λ l. rw (w i l) tt))
+  take p k f z (lowest x q j h m d w) = ⊎_elim first new (le_or_lt x y)
     where
-      go : (t : Bool) → ltb y x ≡ t → Earliest s (p + 1) bad (cond t (At y) (At x))
-      go true l = lowest y p (omega arith) n e (λ i g. below_next (UpTo y) g (λ k. omega (arith, e)) (λ j k. omega (arith, w i j k, ltb-true y x l)))
-      go false l = lowest x q (omega arith) m d (λ i g. below_next (UpTo x) g (λ k. omega (arith, e, ltb-false y x l)) (w i))
+      y : ℕ
+      y = place_of s p k
 
-module _ (s : List ℕ) (read : read_of s ≡ accepted (states_of s)) (Fault : ℕ → ℕ → Type 0) (n : ℕ) (bad : List ℕ) (all : n ≡ (head_of s).processes) (w : FirstsTo s Fault n bad) where
+      first : x ≤ y → Earliest s (p + 1) bad (Some (min x y))
+      first l =
+          let same : x ≡ min x y = omega arith in
+          rw (← same) (lowest x q j (omega arith) m d (λ i g. below_next (UpTo x) g (rw z (omega arith)) (w i)))
+
+      new : y < x → Earliest s (p + 1) bad (Some (min x y))
+      new l =
+          let same : y ≡ min x y = omega arith in
+          rw (← same) (lowest y p k (omega arith) z refl (λ i g. below_next (UpTo y) g (rw z (omega arith)) (λ o. IfSome_then (get_or bad i None) (w i o) (λ n a. omega arith))))
+
+  -- the place of the state of a process, where it has one
+  abbrev pub place_in : ℕ → Option ℕ
+  place_in p = option_map (place_of s p) (get_or bad p None)
+
+  -- what `min` over these places gives
+  pub earliest_least : (n : ℕ) → Earliest s n bad (reduce min (filter_map place_in (range_with_len 0 n)))
+  earliest_least zero = all_none (λ p h. absurd (omega arith))
+  earliest_least (suc n) =
+      let split = ap (filter_map place_in) (range_next 0 n) ∙ filter_map-append place_in (range_with_len 0 n) ((0 + n) ∷ []) ∙ ap (λ i. front ++ cons_option (place_in i) []) (zero-add n) in
+      subst (λ m. Earliest s m bad (reduce min (filter_map place_in (range_with_len 0 (suc n))))) (add-one n) (subst (λ l. Earliest s (n + 1) bad (reduce min l)) (sym split) (go (get_or bad n None) refl (earliest_least n)))
+    where
+      front : List ℕ
+      front = filter_map place_in (range_with_len 0 n)
+
+      go : (o : Option ℕ) → get_or bad n None ≡ o → Earliest s n bad (reduce min front) → Earliest s (n + 1) bad (reduce min (front ++ cons_option (option_map (place_of s n) o) []))
+      go None e w = rw (append-nil front) (skip n (reduce min front) e w)
+      go (Some k) e w = rw (reduce_next front (place_of s n k)) (take n k (reduce min front) e w)
+
+module _ (s : List ℕ) (read : read_of s ≡ accepted (states_of s)) (Fault : ℕ → ℕ → Type 0) (n : ℕ) (bad : List (Option ℕ)) (all : n ≡ (head_of s).processes)
+    (w : FirstsTo s Fault n bad) where
   inside : {p k : ℕ} → IsState (run_in s) p k → p < n
   inside t = omega (arith, all, process_of s read t)
 
   -- a place that isn't above those of the first faulty states isn't above any faulty state's
   up_to_all : (x : ℕ) → ((p : ℕ) → p < n → UpTo s bad x p) → (p k : ℕ) → IsState (run_in s) p k → Fault p k → x ≤ place_of s p k
-  up_to_all x v p k t f =
-      let h = inside t in
-      let o = w.each p h in
-      elim (ℕ_discrete (get_or bad p 0) 0) [
-        | yes z ↦ absurd (o.first k t (inl z) f)
-        | no z ↦ ⊎_elim
-            (λ l. ⊎_elim
-            (λ e. rw (← e) (v p h z))
-            (λ g. omega (arith, v p h z, place_rises s read p (get_or bad p 0) k (o.there z) t g))
-            (eq-or-lt_of_le l))
-            (λ l. absurd (o.first k t (inr l) f))
-            (le_or_lt (get_or bad p 0) k)
-      ]
+  up_to_all x v p k t f = go (get_or bad p None) (w.each p (inside t)) (v p (inside t))
+    where
+      go : (o : Option ℕ) → FirstOf s Fault p o → IfSome o (λ l. x ≤ place_of s p l) → x ≤ place_of s p k
+      go None o u = absurd (o.first k t tt f)
+      go (Some l) o u = ⊎_elim
+          (λ h. ⊎_elim
+          (λ e. rw (← e) u)
+          (λ g. omega (arith, u, place_rises s read p l k o.there t g))
+          (eq-or-lt_of_le h))
+          (λ h. absurd (o.first k t h f))
+          (le_or_lt l k)
 
-  pub first_judged : {More : Type 0} → (((p : ℕ) → p < n → get_or bad p 0 ≡ 0) → More) → (f : FirstFault) → Earliest s n bad f → FirstJudged s Fault More f
-  first_judged more f (all_none z) = faultless (λ p k t. let h = inside t in (w.each p h).first k t (inl (z p h))) (more z)
-  first_judged more f (lowest x p h m e v) = faulty x (record {
-    process = p;
-    state = get_or bad p 0;
-    there = (w.each p h).there m;
-    fault = (w.each p h).fault m;
-    place = e;
-    first = up_to_all x v;
-  })
+  pub first_judged : {More : Type 0} → (((p : ℕ) → p < n → get_or bad p None ≡ None) → More) → (f : Option ℕ) → Earliest s n bad f → FirstJudged s Fault More f
+  first_judged more f (all_none z) = faultless (λ p k t. let h = inside t in (w.each p h).first k t (rw (z p h) tt)) (more z)
+  first_judged more f (lowest x p k h m e v) =
+      let o : FirstOf s Fault p (Some k) = rw m at (w.each p h) in
+      faulty x (record { process = p; state = k; there = o.there; fault = o.fault; place = e; first = up_to_all x v })
 
 module _ {s : List ℕ} {Fault : ℕ → ℕ → Type 0} {More : Type 0} where
-  pub fault_at : {f : FirstFault} {x : ℕ} → FirstJudged s Fault More f → f ≡ At x → FirstAt s Fault x
-  fault_at {f} {x} (faulty y w) e = let same : y ≡ x = cc in rw (← same) w
-  fault_at (faultless n m) e = never (cc)
+  pub fault_at : {x : ℕ} → FirstJudged s Fault More (Some x) → FirstAt s Fault x
+  fault_at (faulty _ w) = w
 
-  pub no_fault : {f : FirstFault} → FirstJudged s Fault More f → f ≡ Nothing → Faultless s Fault × More
-  no_fault (faulty y w) e = never (cc)
-  no_fault (faultless n m) e = (n, m)
+  pub no_fault : FirstJudged s Fault More None → Faultless s Fault × More
+  no_fault (faultless n m) = (n, m)

@@ -1,3 +1,4 @@
+pub mod Ranges
 pub mod Firsts
 pub mod Processes
 pub mod Pairs

@@ -1,17 +1,18 @@
 -- Laws of the pairing: what a search over a history tells, the marks, and faults and clear states. Letters as in specs/Pairing.
 use mathlib.Core.Path.{◌≡◌, refl, sym, ap, ◌∙◌}
-use mathlib.Core.Logic.{inl, inr, ◌≢◌}
-use mathlib.Core.Bool.{Bool, true, false, not, ◌&&◌}
+use mathlib.Core.Logic.{inl, inr}
+use mathlib.Core.Bool.{Bool, true, false, not}
 use mathlib.Core.List.{List}
-use mathlib.Core.Option.{Option, some, none}
+use mathlib.Core.Option.{Option as Maybe, some, none}
 use Prim.Native.Nat.{ℕ, ◌+◌, ◌-◌, ◌≤◌, ◌<◌}
 use native.Mathlib.Decide.{ℕ_discrete}
 use native.Mathlib.Omega.{arith}
-use borrow.Author.Tests.{eqb-true, not-false}
+use borrow.Author.Tests.{not-true, not-false}
 use lib.Dec.{T, eqb, eqb→eq}
 use lib.ListN.{length, get_or, set}
 use lib.Seq.{get_or-set_same, get_or-set_other}
-use Rattle.model.proofs.Numbers.{never, positive, below_next}
+use Rattle.std.specs.Prelude.{Option, Some, None, is_some, MatchOption}
+use Rattle.model.proofs.Numbers.{never, positive, below_next, T_of, not_T_of}
 use Rattle.model.specs.declared.Message.{Message}
 use Rattle.model.specs.declared.Event.{Event}
 use Rattle.model.specs.declared.Event.TheVariants.{Start, Internal, Send, Receive}
@@ -38,28 +39,18 @@ unfolding carries which
 carries_internal true m = refl
 carries_internal false m = refl
 
-pub carries_send : (sends : Bool) (n m : Message) → (sends && (eqb n.channel m.channel && eqb n.number m.number)) ≡ carries sends (Send n) m
-unfolding carries which
-carries_send true n m = refl
-carries_send false n m = refl
-
-pub carries_receive : (sends : Bool) (n m : Message) → (not sends && (eqb n.channel m.channel && eqb n.number m.number)) ≡ carries sends (Receive n) m
-unfolding carries which
-carries_receive true n m = refl
-carries_receive false n m = refl
-
 pub not_both : {e : Event} {m n : Message} → e ≡ Send m → e ≡ Receive n → ⊥
 not_both e g = never (cc (e, g))
 
 -- two messages that are the same have one channel and one number
-pub same_parts : (o p : Option Message) → T (same_message o p) → (m : Message) × (n : Message) × (o ≡ some m) × (p ≡ some n) × (m.channel ≡ n.channel) × (m.number ≡ n.number)
+pub same_parts : (o p : Maybe Message) → T (same_message o p) → (m : Message) × (n : Message) × (o ≡ some m) × (p ≡ some n) × (m.channel ≡ n.channel) × (m.number ≡ n.number)
 same_parts none p t = absurd t
 same_parts (some m) none t = absurd t
 same_parts (some m) (some n) t =
     let (x, y) = and_T (eqb m.channel n.channel) (eqb m.number n.number) t in
     (m, n, refl, refl, eqb→eq m.channel n.channel x, eqb→eq m.number n.number y)
 
-pub parts_same : {o p : Option Message} (m n : Message) → o ≡ some m → p ≡ some n → m.channel ≡ n.channel → m.number ≡ n.number → T (same_message o p)
+pub parts_same : {o p : Maybe Message} (m n : Message) → o ≡ some m → p ≡ some n → m.channel ≡ n.channel → m.number ≡ n.number → T (same_message o p)
 parts_same m n a b x y =
     rw (a, b) (T_and (eqb m.channel n.channel) (eqb m.number n.number) (eq→eqb m.channel n.channel x) (eq→eqb m.number n.number y))
 
@@ -69,6 +60,10 @@ pub mark_less : (sends : Bool) (c : ℕ) → c < 16 → mark_at sends c < 32
 unfolding mark_at
 mark_less true c h = omega arith
 mark_less false c h = omega arith
+
+-- the marks have the entry of a channel
+pub mark_inside : {r : Run} {sends : Bool} {p k c : ℕ} {marks : List ℕ} → Marking r sends p k c marks → (mark_at sends c < 32) × (mark_at sends c < length marks)
+mark_inside {sends = sends} {c = c} w = let h = mark_less sends c w.channel in (h, omega (arith, h, w.long))
 
 -- state 0 is none, and carries nothing
 no-state : (r : Run) (p : ℕ) (sends : Bool) (m : Message) → ¬ T (carries sends (into r p 0) m)
@@ -98,27 +93,34 @@ module _ (r : Run) (p k : ℕ) (sends : Bool) (m : Message) (marks : List ℕ) w
       inside = omega (arith, w.long, mark_less sends m.channel w.channel)
 
   -- else an earlier state is looked for
-  pub repeats_found : (x : ℕ) → m.number < get_or marks (mark_at sends m.channel) 0 → Carrier r p 1 (k - 1) sends m x → Repeats r p k sends m marks marks (not (eqb x 0))
-  repeats_found x h (absent e w) = rw e (record {
+  pub repeats_found : (x : Option ℕ) → m.number < get_or marks (mark_at sends m.channel) 0 → Carrier r p 1 (k - 1) sends m x → Repeats r p k sends m marks marks (is_some x)
+  repeats_found x h (absent w) = record {
     higher = λ i. omega arith;
     own = h;
     earlier = λ z. never (cc);
     new = λ z l g t. elim (ℕ_discrete l 0) [ yes n ↦ no-state r p sends m (rw n at t) | no n ↦ w l (positive n) (omega arith) t ];
-  })
-  repeats_found x h (present a c t) = record {
+  }
+  repeats_found x h (present l a c t) = record {
     higher = λ i. omega arith;
     own = h;
-    earlier = λ z. (x, a, omega arith, t);
-    new = λ z. absurd (let e : x ≡ 0 = eqb-true x 0 (not-false _ z) in omega arith);
+    earlier = λ z. (l, a, omega arith, t);
+    new = λ z. never (cc);
   }
 
 -- ---- a search
 
-pub carrier_near : {r : Run} {p low high : ℕ} {sends : Bool} {m : Message} {k : ℕ} → 1 ≤ low → k ≢ 0 → Carrier r p low high sends m k → Carrier r p 1 high sends m k
-carrier_near h n (absent e w) = absurd (n e)
-carrier_near h n (present a c t) = present (omega arith) c t
+-- what `find` over the states tells
+pub carrier_found : (r : Run) (p low high : ℕ) (sends : Bool) (m : Message) (x : Option ℕ)
+    → MatchOption x ((k : ℕ) → low ≤ k → k < high + 1 → carries sends (into r p k) m ≡ false)
+    (λ i. (low ≤ i) × (i < high + 1) × (carries sends (into r p i) m ≡ true) × ((k : ℕ) → low ≤ k → k < i → carries sends (into r p k) m ≡ false))
+    → Carrier r p low high sends m x
+carrier_found r p low high sends m None h = absent (λ l a b. not_T_of (h l a (omega arith)))
+carrier_found r p low high sends m (Some k) (a, b, e, w) = present k a (omega arith) (T_of e)
 
-pub carrier_at : (r : Run) (sends : Bool) (m : Message) (k : ℕ) {p p' high high' : ℕ} → p ≡ p' → high ≡ high' → Carrier r p 1 high sends m k → Carrier r p' 1 high' sends m k
+pub carrier_near : {r : Run} {p low high : ℕ} {sends : Bool} {m : Message} {k : ℕ} → 1 ≤ low → Carrier r p low high sends m (Some k) → Carrier r p 1 high sends m (Some k)
+carrier_near h (present k a c t) = present k (omega arith) c t
+
+pub carrier_at : (r : Run) (sends : Bool) (m : Message) (k : Option ℕ) {p p' high high' : ℕ} → p ≡ p' → high ≡ high' → Carrier r p 1 high sends m k → Carrier r p' 1 high' sends m k
 carrier_at r sends m k e g w = rw (← e, ← g) w
 
 -- ---- a state
@@ -137,7 +139,7 @@ module _ (r : Run) (sends : Bool) (p k : ℕ) (marks marks' : List ℕ) (up : Hi
   rising_own m e own = rising_next (λ n h. let same : m ≡ n = cc (e, h) in rw (← same) own)
 
 -- who sends, or receives, nothing repeats nothing
-quiet_new : (o : Option Message) {q : Option Message} → q ≡ none → ¬ T (same_message o q)
+quiet_new : (o : Maybe Message) {q : Maybe Message} → q ≡ none → ¬ T (same_message o q)
 quiet_new none e t = t
 quiet_new (some m) e t = rw e at t
 
@@ -146,7 +148,7 @@ module _ {s ix marks hints : List ℕ} {p k : ℕ} (w : PairingAt s ix marks hin
   r = run_in s
 
   -- an event that sends and receives nothing is clear
-  pub settled_quiet : (e : Event) → into r p k ≡ e → sending e ≡ none → receiving e ≡ none → Settled r p k ix ix marks false
+  pub settled_quiet : (e : Event) → into r p k ≡ e → sending e ≡ none → receiving e ≡ none → Settled r p k ix ix marks true
   unfolding which
   settled_quiet e g a b = record {
     faulty = λ z. never (cc);
@@ -161,12 +163,12 @@ module _ {s ix marks hints : List ℕ} {p k : ℕ} (w : PairingAt s ix marks hin
   }
 
   -- a send is faulty exactly if it repeats one
-  pub settled_send : (m : Message) → into r p k ≡ Send m → (marks' : List ℕ) (t : Bool) → Repeats r p k true m marks marks' t → Settled r p k ix ix marks' t
+  pub settled_send : (m : Message) → into r p k ≡ Send m → (marks' : List ℕ) (t : Bool) → Repeats r p k true m marks marks' t → Settled r p k ix ix marks' (not t)
   unfolding which carries
   settled_send m g marks' t v = record {
-    faulty = λ z. let (l, a, b, u) = v.earlier z in again true l a b (rw g u);
+    faulty = λ z. let (l, a, b, u) = v.earlier (not-false t z) in again true l a b (rw g u);
     clear = λ z. record {
-      new_send = λ l h u. v.new z l h (rw g at u);
+      new_send = λ l h u. v.new (not-true t z) l h (rw g at u);
       new_receive = λ l h. quiet_new (receiving (into r p l)) (ap receiving g);
       has_send = λ n h. absurd (no_receive (Send m) g refl n h);
     };
@@ -185,7 +187,7 @@ module _ {s ix marks hints : List ℕ} {p k : ℕ} (w : PairingAt s ix marks hin
     received_behind v = rising_own r false p k marks marks' v.higher w.received m (ap receiving g) v.own
 
     -- a receive that repeats one is faulty
-    pub settled_repeat : Repeats r p k false m marks marks' true → Settled r p k ix ix marks' true
+    pub settled_repeat : Repeats r p k false m marks marks' true → Settled r p k ix ix marks' false
     unfolding which carries
     settled_repeat v = record {
       faulty = λ z. let (l, a, b, u) = v.earlier refl in again false l a b (rw g u);
@@ -228,9 +230,8 @@ module _ (r : Run) (sides : Sides r) (p k : ℕ) (m : Message) (g : into r p k �
   carries_pair i l t = record { same = rw g t }
 
   -- what the search over the sender's states tells
-  pub received_none : (ix : List ℕ) (x : ℕ) → x ≡ 0 → SendIs r m x → Received r p k ix ix true
-  received_none ix x z (present a c t) = absurd (omega arith)
-  received_none ix x z (absent e w) = record {
+  pub received_none : (ix : List ℕ) → SendIs r m None → Received r p k ix ix false
+  received_none ix (absent w) = record {
     alone = λ y i l q.
         let (a, b) = pair_from q in
         let s = sent_there (view q).send in
@@ -238,14 +239,12 @@ module _ (r : Run) (sides : Sides r) (p k : ℕ) (m : Message) (g : into r p k �
     entered = λ y. never (cc);
   }
 
-  pub received_one : (ix : List ℕ) (x : ℕ) → x ≢ 0 → SendIs r m x
-      → Received r p k ix (set (set ix (partner_at (channel r m.channel).from x) k) (partner_at p k) x) false
-  received_one ix x z (absent e w) = absurd (z e)
-  received_one ix x z (present a c t) = record {
+  pub received_one : (ix : List ℕ) (x : ℕ) → SendIs r m (Some x)
+      → Received r p k ix (set (set ix (partner_at (channel r m.channel).from x) k) (partner_at p k) x) true
+  received_one ix x (present _ a c t) = record {
     alone = λ y. never (cc);
     entered = λ y. record { process = (channel r m.channel).from; state = x; pair = carries_pair _ x t; after = refl };
   }
 
-  pub send_there : (x : ℕ) → x ≢ 0 → SendIs r m x → IsState r (channel r m.channel).from x
-  send_there x z (absent e w) = absurd (z e)
-  send_there x z (present a c t) = record { counted = a; there = c }
+  pub send_there : {x : ℕ} → SendIs r m (Some x) → IsState r (channel r m.channel).from x
+  send_there (present _ a c t) = record { counted = a; there = c }

@@ -1,6 +1,6 @@
 -- The table of partners: entering a receive with its send, state by state and process by process. Letters as in specs/Pairing.
 use mathlib.Core.Path.{◌≡◌, refl, sym, ap, ◌∙◌}
-use mathlib.Core.Logic.{◌⊎◌, inl, inr, ⊎_elim, ◌≢◌}
+use mathlib.Core.Logic.{inl, inr, ⊎_elim, ◌≢◌}
 use mathlib.Core.Bool.{Bool, true, false}
 use mathlib.Core.List.{List}
 use Prim.Native.Nat.{ℕ, zero, suc, ◌+◌, ◌<◌}
@@ -8,6 +8,8 @@ use native.Mathlib.Decide.{ℕ_discrete}
 use native.Mathlib.Omega.{arith}
 use lib.ListN.{length, get_or, set, length-set}
 use lib.Seq.{get_or-set_same, get_or-set_other}
+use Rattle.std.specs.Prelude.{Option, Some, None}
+use Rattle.std.specs.Option.{IfSome}
 use Rattle.model.proofs.Numbers.{never, below_next}
 use Rattle.model.specs.declared.Message.{Message}
 use Rattle.model.specs.declared.Event.TheVariants.{Receive}
@@ -111,7 +113,7 @@ module _ (r : Run) (small : Small r) where
     kept = λ j l s d w. w;
   }
 
-  pub partway_next : (p k : ℕ) (ix mid ix' marks' : List ℕ) → length mid ≡ index_size → IsState r p k → Partway r p k ix mid → Settled r p k mid ix' marks' false
+  pub partway_next : (p k : ℕ) (ix mid ix' marks' : List ℕ) → length mid ≡ index_size → IsState r p k → Partway r p k ix mid → Settled r p k mid ix' marks' true
       → Partway r p (k + 1) ix ix'
   unfolding Met
   partway_next p k ix mid ix' marks' long here w v = ⊎_elim quiet enter (v.entered refl)
@@ -136,18 +138,18 @@ module _ (r : Run) (small : Small r) where
         kept = λ j l s d a. entered_keeps p k mid ix' long e j l s (λ z. d (entry_one s here z).0) (w.kept j l s d a);
       }
 
-  pub process_fault : (p k : ℕ) (ix mid ix' marks' : List ℕ) → IsState r p k → Partway r p k ix mid → Settled r p k mid ix' marks' true → ProcessPaired r p ix ix' k
+  pub process_fault : (p k : ℕ) (ix mid ix' marks' : List ℕ) → IsState r p k → Partway r p k ix mid → Settled r p k mid ix' marks' false → ProcessPaired r p ix ix' (Some k)
   process_fault p k ix mid ix' marks' s w v = record {
-    faulty = λ n. (s, v.faulty refl);
-    clear = λ l t h. ⊎_elim (λ z. absurd (omega (arith, s.counted))) (w.clear l t) h;
-    backed = λ z. absurd (omega (arith, s.counted));
-    met = λ z. absurd (omega (arith, s.counted));
-    kept = λ z. absurd (omega (arith, s.counted));
+    faulty = (s, v.faulty refl);
+    clear = w.clear;
+    backed = λ z. never (cc);
+    met = λ z. never (cc);
+    kept = λ z. never (cc);
   }
 
-  pub process_end : (p k : ℕ) (ix ix' : List ℕ) → count r p < k → Partway r p k ix ix' → ProcessPaired r p ix ix' 0
+  pub process_end : (p k : ℕ) (ix ix' : List ℕ) → count r p < k → Partway r p k ix ix' → ProcessPaired r p ix ix' None
   process_end p k ix ix' h w = record {
-    faulty = λ n. absurd (n refl);
+    faulty = tt;
     clear = λ l t g. w.clear l t (omega (arith, t.there));
     backed = λ z. w.backed;
     met = λ z l t. w.met l t (omega (arith, t.there));
@@ -163,7 +165,7 @@ rising_start r sends p marks (suc l) m h e = absurd (omega arith)
 
 -- ---- process by process
 
-pub processes_start : (r : Run) (bad ix : List ℕ) → Fresh partners_part ix → ProcessesPaired r 0 bad ix
+pub processes_start : (r : Run) (bad : List (Option ℕ)) (ix : List ℕ) → Fresh partners_part ix → ProcessesPaired r 0 bad ix
 unfolding Backed
 processes_start r bad ix e = record {
   faulty = λ p h. absurd (omega arith);
@@ -172,19 +174,19 @@ processes_start r bad ix e = record {
   met = λ w p l h. absurd (omega arith);
 }
 
-pub processes_next : (r : Run) (n k : ℕ) (bad ix ix' : List ℕ) → n < length bad → ProcessesPaired r n bad ix → ProcessPaired r n ix ix' k
+pub processes_next : (r : Run) (n : ℕ) (k : Option ℕ) (bad : List (Option ℕ)) (ix ix' : List ℕ) → n < length bad → ProcessesPaired r n bad ix → ProcessPaired r n ix ix' k
     → ProcessesPaired r (n + 1) (set bad n k) ix'
 processes_next r n k bad ix ix' inside w v = record {
-  faulty = each_next (λ p x. x ≢ 0 → IsState r p x × Faulty r p x) n k bad inside v.faulty w.faulty;
-  clear = λ p l h. each_next (λ p x. IsState r p l → (x ≡ 0) ⊎ (l < x) → Clear r p l) n k bad inside (v.clear l) (λ p. w.clear p l) p h;
+  faulty = each_next (λ p x. IfSome x (λ k. IsState r p k × Faulty r p k)) n k bad inside v.faulty w.faulty;
+  clear = λ p l h. each_next (λ p x. IsState r p l → IfSome x (λ k. l < k) → Clear r p l) n k bad inside (v.clear l) (λ p. w.clear p l) p h;
   backed = λ z. v.backed (last z) (w.backed (others z));
   met = λ z p l h. below_next (λ p. IsState r p l → Met r ix' p l) h
       (v.met (last z) l)
       (λ g t. v.kept (last z) p l t (λ e. absurd (omega arith)) (w.met (others z) p l g t));
 }
   where
-    last : ((p : ℕ) → p < n + 1 → get_or (set bad n k) p 0 ≡ 0) → k ≡ 0
-    last z = sym (get_or-set_same bad n k 0 inside) ∙ z n (omega arith)
+    last : ((p : ℕ) → p < n + 1 → get_or (set bad n k) p None ≡ None) → k ≡ None
+    last z = sym (get_or-set_same bad n k None inside) ∙ z n (omega arith)
 
-    others : ((p : ℕ) → p < n + 1 → get_or (set bad n k) p 0 ≡ 0) → (p : ℕ) → p < n → get_or bad p 0 ≡ 0
-    others z p h = sym (get_or-set_other bad n p k 0 (λ e. absurd (omega arith))) ∙ z p (omega arith)
+    others : ((p : ℕ) → p < n + 1 → get_or (set bad n k) p None ≡ None) → (p : ℕ) → p < n → get_or bad p None ≡ None
+    others z p h = sym (get_or-set_other bad n p k None (λ e. absurd (omega arith))) ∙ z p (omega arith)

@@ -3,13 +3,15 @@ use mathlib.Core.Path.{◌≡◌, refl, sym, ap, ◌∙◌, subst}
 use mathlib.Core.Logic.{◌⊎◌, inl, inr, ⊎_elim, ◌≢◌}
 use mathlib.Core.Bool.{Bool, true, false, cond}
 use mathlib.Core.List.{List}
-use mathlib.Core.Option.{Option, some}
+use mathlib.Core.Option.{Option as Maybe, some}
 use Prim.Native.Nat.{ℕ, ◌+◌, ◌≤◌, ◌<◌}
 use native.Mathlib.Nat.{eq-or-lt_of_le}
 use native.Mathlib.Omega.{arith}
 use borrow.Author.Tests.{ltb-true, ltb-false}
 use lib.Dec.{T, ltb}
 use lib.ListN.{length, get_or}
+use Rattle.std.specs.Prelude.{Option, Some, None}
+use Rattle.std.proofs.lemmas.Option.{IfSome_then}
 use Rattle.model.specs.Cut.{AfterCircle}
 use Rattle.model.specs.declared.Message.{Message}
 use Rattle.model.specs.declared.Event.{Event}
@@ -34,16 +36,15 @@ use Rattle.run.specs.Said.{states_of, run_in, place_of}
 use Rattle.run.specs.Index.{partner_at, Partnered, Listed, Fresh, index_size, partners_part}
 use Rattle.run.specs.Inner.{reading, RunPassed}
 use Rattle.run.proofs.Listed.{sides, process_of, place_rises, listed_count}
-use Rattle.judged.specs.declared.FirstFault.{FirstFault}
 use Rattle.judged.specs.Judged.{Unpaired}
 use Rattle.judged.specs.Judged.Unpaired.{second_send, second_receive, no_send}
 use Rattle.judged.specs.Inner.{next_of, Undone, PairingJudged, CircleJudged}
-use Rattle.judged.specs.Firsts.{FirstsTo, Earliest}
+use Rattle.judged.specs.Firsts.{FirstOf, FirstsTo, Earliest}
 use Rattle.judged.specs.Order.{Ordered}
 use Rattle.judged.specs.Pairing.{which, Clear, Faulty, Backed, Met, ProcessesPaired}
 use Rattle.judged.specs.Pairing.Faulty.{again, alone}
 use Rattle.judged.proofs.Pairs.{not_both, same_parts, parts_same}
-use Rattle.judged.proofs.Firsts.{first_judged}
+use Rattle.judged.proofs.Firsts.{first_of_here, first_judged}
 
 module _ (s : List ℕ) (read : read_of s ≡ accepted (states_of s)) where
   abbrev r : Run
@@ -68,7 +69,7 @@ module _ (s : List ℕ) (read : read_of s ≡ accepted (states_of s)) where
       (le_or_lt k j)
 
   -- a message at an earlier place is by the same process: f is what an event sends, or receives, and end the channel's end that may
-  same_process : (f : Event → Option Message) (end : ℕ → ℕ) → ((i k : ℕ) (m : Message) → f (into r i k) ≡ some m → end m.channel ≡ i)
+  same_process : (f : Event → Maybe Message) (end : ℕ → ℕ) → ((i k : ℕ) (m : Message) → f (into r i k) ≡ some m → end m.channel ≡ i)
       → (i j p k : ℕ) → IsState r i j → IsState r p k → place_of s i j < place_of s p k → T (same_message (f (into r i j)) (f (into r p k)))
       → (j < k) × T (same_message (f (into r p j)) (f (into r p k)))
   same_process f end by i j p k t' t h u =
@@ -88,7 +89,7 @@ module _ (s : List ℕ) (read : read_of s ≡ accepted (states_of s)) where
   -- ---- no fault: the run is known, and the partners are right
 
   -- where no earlier state has what a state sends, or receives, one state has it
-  only : (f : Event → Option Message) (i : ℕ) → ((k : ℕ) → IsState r i k → (l : ℕ) → l < k → ¬ T (same_message (f (into r i l)) (f (into r i k))))
+  only : (f : Event → Maybe Message) (i : ℕ) → ((k : ℕ) → IsState r i k → (l : ℕ) → l < k → ¬ T (same_message (f (into r i l)) (f (into r i k))))
       → (k k' : ℕ) (m m' : Message) → IsState r i k → IsState r i k' → f (into r i k) ≡ some m → f (into r i k') ≡ some m'
       → m.channel ≡ m'.channel → m.number ≡ m'.number → k ≡ k'
   only f i new k k' m m' t t' e e' x y = ⊎_elim
@@ -140,19 +141,19 @@ module _ (s : List ℕ) (read : read_of s ≡ accepted (states_of s)) where
 
   -- ---- the first faults of all processes
 
-  module _ (n : ℕ) (bad ix : List ℕ) (all : n ≡ (head_of s).processes) (w : ProcessesPaired r n bad ix) where
+  module _ (n : ℕ) (bad : List (Option ℕ)) (ix : List ℕ) (all : n ≡ (head_of s).processes) (w : ProcessesPaired r n bad ix) where
     pub pairing_firsts : FirstsTo s (Unpaired s) n bad
     pairing_firsts = record {
       each = λ p h. record {
-        there = λ n. (w.faulty p h n).0;
-        fault = λ n. let (t, f) = w.faulty p h n in faulty_unpaired p (get_or bad p 0) t f;
+        there = IfSome_then (get_or bad p None) (w.faulty p h) (λ k f. f.0);
+        fault = IfSome_then (get_or bad p None) (w.faulty p h) (λ k f. faulty_unpaired p k f.0 f.1);
         first = λ k t g. clear_paired p k t (w.clear p k h t g);
       };
     }
 
-    pub pairing_judged : (f : FirstFault) → Earliest s n bad f → PairingJudged s ix f
+    pub pairing_judged : (f : Option ℕ) → Earliest s n bad f → PairingJudged s ix f
     pairing_judged = first_judged s read (Unpaired s) n bad all pairing_firsts (λ z.
-        let known = clear_known (λ p k t. w.clear p k (inside t) t (inl (z p (inside t)))) in
+        let known = clear_known (λ p k t. w.clear p k (inside t) t (rw (z p (inside t)) tt)) in
         (known, met_partnered known ix (w.backed z) (λ p l t. w.met z p l (inside t) t)))
       where
         inside : {p k : ℕ} → IsState r p k → p < n
@@ -160,44 +161,42 @@ module _ (s : List ℕ) (read : read_of s ≡ accepted (states_of s)) where
 
 -- ---- circles: the first state of each process that isn't done
 
-next_cases : (d n : ℕ) → ((d < n) × (next_of d n ≡ d + 1)) ⊎ ((n ≤ d) × (next_of d n ≡ 0))
+next_cases : (d n : ℕ) → ((d < n) × (next_of d n ≡ Some (d + 1))) ⊎ ((n ≤ d) × (next_of d n ≡ None))
 unfolding next_of
 next_cases d n = go (ltb d n) refl
   where
-    go : (t : Bool) → ltb d n ≡ t → ((d < n) × (cond t (d + 1) 0 ≡ d + 1)) ⊎ ((n ≤ d) × (cond t (d + 1) 0 ≡ 0))
+    go : (t : Bool) → ltb d n ≡ t → ((d < n) × (cond t (Some (d + 1)) None ≡ Some (d + 1))) ⊎ ((n ≤ d) × (cond t (Some (d + 1)) None ≡ None))
     go true e = inl (ltb-true d n e, refl)
     go false e = inr (ltb-false d n e, refl)
 
-module _ (s ix done bad : List ℕ) (n : ℕ) (w : Listed s ix) (all : n ≡ (head_of s).processes) (o : Ordered s done ix) (u : Undone n ix done bad) where
-  bad_is : (p : ℕ) → p < n → ((get_or done p 0 < count (run_in s) p) × (get_or bad p 0 ≡ get_or done p 0 + 1)) ⊎ ((count (run_in s) p ≤ get_or done p 0) × (get_or bad p 0 ≡ 0))
+module _ (s ix done : List ℕ) (bad : List (Option ℕ)) (n : ℕ) (w : Listed s ix) (all : n ≡ (head_of s).processes) (o : Ordered s done ix) (u : Undone n ix done bad) where
+  bad_is : (p : ℕ) → p < n
+      → ((get_or done p 0 < count (run_in s) p) × (get_or bad p None ≡ Some (get_or done p 0 + 1))) ⊎ ((count (run_in s) p ≤ get_or done p 0) × (get_or bad p None ≡ None))
   bad_is p h =
       let e = listed_count s ix w p (omega (arith, all)) in
       ⊎_elim (λ x. inl (omega (arith, x.0, e), u.next p h ∙ x.1)) (λ x. inr (omega (arith, x.0, e), u.next p h ∙ x.1)) (next_cases (get_or done p 0) (get_or ix p 0))
 
   pub circle_firsts : FirstsTo s (AfterCircle (run_in s)) n bad
-  circle_firsts = record {
-    each = λ p h. record {
-      there = there p h;
-      fault = λ m. o.caught p (get_or bad p 0) (there p h m) (⊎_elim (λ x. omega (arith, x.1)) (λ x. absurd (m x.1)) (bad_is p h));
-      first = λ k t g. o.sound.clear p k t (⊎_elim
-          (λ x. ⊎_elim (λ z. absurd (omega (arith, x.1))) (λ z. omega (arith, x.1)) g)
-          (λ x. omega (arith, t.there, x.0))
-          (bad_is p h));
-    };
-  }
+  circle_firsts = record { each = λ p h. ⊎_elim (behind p) (λ x. rw x.1 (all_clear p x.0)) (bad_is p h) }
     where
-      there : (p : ℕ) → p < n → get_or bad p 0 ≢ 0 → IsState (run_in s) p (get_or bad p 0)
-      there p h m = ⊎_elim (λ x. record { counted = omega (arith, x.1); there = omega (arith, x.0, x.1) }) (λ x. absurd (m x.1)) (bad_is p h)
+      behind : (p : ℕ) → (get_or done p 0 < count (run_in s) p) × (get_or bad p None ≡ Some (get_or done p 0 + 1)) → FirstOf s (AfterCircle (run_in s)) p (get_or bad p None)
+      behind p x =
+          let k = get_or done p 0 + 1 in
+          let t : IsState (run_in s) p k = record { counted = omega arith; there = omega (arith, x.0) } in
+          rw x.1 (first_of_here s (AfterCircle (run_in s)) p k t (o.caught p k t (omega arith)) (λ l t h. o.sound.clear p l t (omega arith)))
 
-  pub circle_judged : (f : FirstFault) → Earliest s n bad f → CircleJudged s ix f
+      all_clear : (p : ℕ) → count (run_in s) p ≤ get_or done p 0 → FirstOf s (AfterCircle (run_in s)) p None
+      all_clear p x = record { there = tt; fault = tt; first = λ k t g. o.sound.clear p k t (omega (arith, t.there)) }
+
+  pub circle_judged : (f : Option ℕ) → Earliest s n bad f → CircleJudged s ix f
   unfolding Clocks
   circle_judged = first_judged s w.read (AfterCircle (run_in s)) n bad all circle_firsts (λ z j l i t. o.sound.clocks j l i t (done_to z t))
     where
       -- where no process has an undone state, all are done
-      done_to : ((p : ℕ) → p < n → get_or bad p 0 ≡ 0) → {j l : ℕ} → IsState (run_in s) j l → l ≤ get_or done j 0
+      done_to : ((p : ℕ) → p < n → get_or bad p None ≡ None) → {j l : ℕ} → IsState (run_in s) j l → l ≤ get_or done j 0
       done_to z {j} {l} t =
           let h : j < n = omega (arith, all, process_of s w.read t) in
-          ⊎_elim (λ x. absurd (omega (arith, x.1, z j h))) (λ x. omega (arith, t.there, x.0)) (bad_is j h)
+          ⊎_elim (λ x. let e = sym x.1 ∙ z j h in never (cc (e))) (λ x. omega (arith, t.there, x.0)) (bad_is j h)
 
 -- ---- what the pass gives
 

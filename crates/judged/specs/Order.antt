@@ -1,7 +1,8 @@
 -- Words of the contracts of the inner functions that order the states and compare their clocks; the promises don't use them. Here s are a run's bytes, r the run and
--- ix its index, and done how many states of each process are done; state l of process i is the one ahead of the send that state k of process p receives, and x is a
--- place of a clock. What is written with ' is as the function leaves it.
-use Rattle.std.specs.Prelude.{◌≡◌, ◌⊎◌, ◌≢◌, Bool, true, false, cond, List, ℕ, suc, ◌+◌, ◌-◌, ◌≤◌, ◌<◌, max, eqb, length, get_or, set}
+-- ix its index, and done how many states of each process are done; a is the state ahead of the send that state k of process p receives, or none, and x is a place of a
+-- clock. What is written with ' is as the function leaves it.
+use Rattle.std.specs.Prelude.{◌≡◌, ◌⊎◌, ◌≢◌, Bool, true, false, cond, List, ℕ, suc, ◌+◌, ◌-◌, ◌≤◌, ◌<◌, max, eqb, length, get_or, set, Option, Some, None}
+use Rattle.std.specs.Option.{IfSome}
 use Rattle.model.specs.declared.Message.{Message}
 use Rattle.model.specs.declared.Event.TheVariants.{Receive}
 use Rattle.model.specs.Run.{Run, count, processes, into, IsState, Paired}
@@ -9,15 +10,16 @@ use Rattle.model.specs.Cut.{AfterCircle, ClockIs}
 use Rattle.record.specs.Record.{head_of}
 use Rattle.run.specs.Said.{run_in}
 use Rattle.run.specs.Index.{clock_row, clock_in, HasSlot, Matched, index_size}
+use Rattle.judged.specs.declared.Ahead.{Ahead}
 use Rattle.judged.specs.Judged.{WrongClock}
 use Rattle.model.specs.Total.{total}
 
 -- ---- a clock
 
--- 0 and 0 where nothing is received
-pub data AheadIs (r : Run) (p k i l : ℕ) : Type 0 where
-  nothing : i ≡ 0 → l ≡ 0 → ((m : Message) → into r p k ≢ Receive m) → AheadIs r p k i l
-  sent : 1 ≤ l → Paired r i (suc l) p k → AheadIs r p k i l
+-- none where nothing is received
+pub data AheadIs (r : Run) (p k : ℕ) : Option Ahead → Type 0 where
+  nothing : ((m : Message) → into r p k ≢ Receive m) → AheadIs r p k None
+  sent : (a : Ahead) → 1 ≤ a.state → Paired r a.process (suc a.state) p k → AheadIs r p k (Some a)
 
 -- a process that has entries, and the number of a state that has, or 0
 pub record SlotOrNone (p k : ℕ) : Type 0 where
@@ -25,22 +27,27 @@ pub record SlotOrNone (p k : ℕ) : Type 0 where
   pub few : k ≤ 512
 
 -- the index has room for the clock of a state, and for that of the state ahead of its send
-pub record ClockRoom (ix : List ℕ) (p k i l : ℕ) : Type 0 where
+pub record ClockRoom (ix : List ℕ) (p k : ℕ) (a : Option Ahead) : Type 0 where
   pub long : length ix ≡ index_size
   pub own : HasSlot p k
-  pub ahead : SlotOrNone i l
+  pub ahead : IfSome a (λ a. HasSlot a.process a.state)
 
 -- place x of the clock of state k of process p, 0 where there is no state
 unfoldable pub number_at : List ℕ → ℕ → ℕ → ℕ → ℕ
 number_at ix p k x = cond (eqb k 0) 0 (clock_in ix p k x)
 
+-- place x of the clock of the state ahead of the send, 0 where nothing is received
+unfoldable pub number_ahead : List ℕ → Option Ahead → ℕ → ℕ
+number_ahead ix None x = 0
+number_ahead ix (Some a) x = clock_in ix a.process a.state x
+
 -- place x of the clock of state k of process p, from those of the state before and of the state ahead of the send
-unfoldable pub number_of : List ℕ → ℕ → ℕ → ℕ → ℕ → ℕ → ℕ
-number_of ix p k i l x = cond (eqb x p) k (max (number_at ix p (k - 1) x) (number_at ix i l x))
+unfoldable pub number_of : List ℕ → ℕ → ℕ → Option Ahead → ℕ → ℕ
+number_of ix p k a x = cond (eqb x p) k (max (number_at ix p (k - 1) x) (number_ahead ix a x))
 
 -- places 0 to n - 1 of the clock of state k of process p are written, and no other state's
-pub record Written (n p k i l : ℕ) (ix ix' : List ℕ) : Type 0 where
-  pub row : (x : ℕ) → x < n → clock_in ix' p k x ≡ number_of ix p k i l x
+pub record Written (n p k : ℕ) (a : Option Ahead) (ix ix' : List ℕ) : Type 0 where
+  pub row : (x : ℕ) → x < n → clock_in ix' p k x ≡ number_of ix p k a x
   pub rest : (x : ℕ) → (x < clock_row p k) ⊎ (clock_row p k + 8 ≤ x) → get_or ix' x 0 ≡ get_or ix x 0
 
 -- ---- the order

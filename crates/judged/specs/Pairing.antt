@@ -1,8 +1,9 @@
 -- Words of the contracts of the inner functions that pair each receive with its send; the promises don't use them. Here s are a run's bytes, r the run and ix its
 -- index, k is a state of process p, m a message, and sends says whether sends are meant, or receives. The marks have of each channel a number above all that the
 -- process has sent, or received, so far. What is written with ' is as the function leaves it.
-use Rattle.std.specs.Prelude.{◌≡◌, ◌⊎◌, ◌≢◌, Bool, true, false, List, ℕ, ◌+◌, ◌*◌, ◌≤◌, ◌<◌, T, length, get_or, set}
-use Rattle.std.proofs.Math.Option.{Option, some}
+use Rattle.std.specs.Prelude.{◌≡◌, ◌⊎◌, ◌≢◌, Bool, true, false, List, ℕ, ◌+◌, ◌*◌, ◌≤◌, ◌<◌, T, length, get_or, set, Option, Some, None}
+use Rattle.std.specs.Option.{IfSome}
+use Rattle.std.proofs.Math.Option.{Option as Maybe, some}
 use Rattle.model.specs.declared.Message.{Message}
 use Rattle.model.specs.declared.Event.{Event}
 use Rattle.model.specs.declared.Event.TheVariants.{Receive}
@@ -14,17 +15,17 @@ use Rattle.run.specs.Index.{partner_at, Listed}
 -- ---- a state that carries a message
 
 -- what an event sends, or what it receives
-unfoldable pub which : Bool → Event → Option Message
+unfoldable pub which : Bool → Event → Maybe Message
 which true e = sending e
 which false e = receiving e
 
 unfoldable pub carries : Bool → Event → Message → Bool
 carries sends e m = same_message (which sends e) (some m)
 
--- k is one of states low to high of process p that carries the message, or 0 where none does
-pub data Carrier (r : Run) (p low high : ℕ) (sends : Bool) (m : Message) (k : ℕ) : Type 0 where
-  absent : k ≡ 0 → ((l : ℕ) → low ≤ l → l ≤ high → ¬ T (carries sends (into r p l) m)) → Carrier r p low high sends m k
-  present : low ≤ k → k ≤ high → T (carries sends (into r p k) m) → Carrier r p low high sends m k
+-- one of states low to high of process p that carries the message, or none does
+pub data Carrier (r : Run) (p low high : ℕ) (sends : Bool) (m : Message) : Option ℕ → Type 0 where
+  absent : ((l : ℕ) → low ≤ l → l ≤ high → ¬ T (carries sends (into r p l) m)) → Carrier r p low high sends m None
+  present : (k : ℕ) → low ≤ k → k ≤ high → T (carries sends (into r p k) m) → Carrier r p low high sends m (Some k)
 
 -- states low to high of process p are there
 pub record Stretch (s ix : List ℕ) (p low high : ℕ) : Type 0 where
@@ -33,9 +34,9 @@ pub record Stretch (s ix : List ℕ) (p low high : ℕ) : Type 0 where
   pub first : 1 ≤ low
   pub last : high ≤ count (run_in s) p
 
--- k is a state of the channel's sender that sends the message, or 0 where none does
-abbrev pub SendIs : Run → Message → ℕ → Type 0
-SendIs r m k = let from = (channel r m.channel).from in Carrier r from 1 (count r from) true m k
+-- a state of the channel's sender that sends the message, or none does
+abbrev pub SendIs : Run → Message → Option ℕ → Type 0
+SendIs r m = let from = (channel r m.channel).from in Carrier r from 1 (count r from) true m
 
 -- ---- marks
 
@@ -84,9 +85,10 @@ pub record Entered (r : Run) (p k : ℕ) (ix ix' : List ℕ) : Type 0 where
   pub pair : Paired r process state p k
   pub after : ix' ≡ set (set ix (partner_at process state) k) (partner_at p k) state
 
+-- whether a receive is entered
 pub record Received (r : Run) (p k : ℕ) (ix ix' : List ℕ) (answer : Bool) : Type 0 where
-  pub alone : answer ≡ true → (i l : ℕ) → ¬ Paired r i l p k
-  pub entered : answer ≡ false → Entered r p k ix ix'
+  pub entered : answer ≡ true → Entered r p k ix ix'
+  pub alone : answer ≡ false → (i l : ℕ) → ¬ Paired r i l p k
 
 -- marks for 16 channels, both ways, and of each the last send that was found
 pub record PairingTables (marks hints : List ℕ) : Type 0 where
@@ -100,11 +102,11 @@ pub record PairingAt (s ix marks hints : List ℕ) (p k : ℕ) : Type 0 where
   pub sent : Rising (run_in s) true p k marks
   pub received : Rising (run_in s) false p k marks
 
--- state k of process p is judged; where it is clear, what it receives is entered
+-- whether state k of process p is clear, and what it receives is entered then
 pub record Settled (r : Run) (p k : ℕ) (ix ix' marks' : List ℕ) (answer : Bool) : Type 0 where
-  pub faulty : answer ≡ true → Faulty r p k
-  pub clear : answer ≡ false → Clear r p k
-  pub entered : answer ≡ false → ((ix' ≡ ix) × ((m : Message) → into r p k ≢ Receive m)) ⊎ Entered r p k ix ix'
+  pub clear : answer ≡ true → Clear r p k
+  pub faulty : answer ≡ false → Faulty r p k
+  pub entered : answer ≡ true → ((ix' ≡ ix) × ((m : Message) → into r p k ≢ Receive m)) ⊎ Entered r p k ix ix'
   pub sent : Rising r true p (k + 1) marks'
   pub received : Rising r false p (k + 1) marks'
 
@@ -119,17 +121,17 @@ Backed r ix = (i k : ℕ) → IsState r i k
 unfoldable pub Met : Run → List ℕ → ℕ → ℕ → Type 0
 Met r ix j l = (m : Message) → into r j l ≡ Receive m → (i : ℕ) × (k : ℕ) × Paired r i k j l × (get_or ix (partner_at j l) 0 ≡ k) × (get_or ix (partner_at i k) 0 ≢ 0)
 
--- the first faulty state of process p, or 0; where there is none, all that it receives is entered
-pub record ProcessPaired (r : Run) (p : ℕ) (ix ix' : List ℕ) (k : ℕ) : Type 0 where
-  pub faulty : k ≢ 0 → IsState r p k × Faulty r p k
-  pub clear : (l : ℕ) → IsState r p l → (k ≡ 0) ⊎ (l < k) → Clear r p l
-  pub backed : k ≡ 0 → Backed r ix → Backed r ix'
-  pub met : k ≡ 0 → (l : ℕ) → IsState r p l → Met r ix' p l
-  pub kept : k ≡ 0 → (j l : ℕ) → IsState r j l → j ≢ p → Met r ix j l → Met r ix' j l
+-- k is the first faulty state of process p, or none is; then all that it receives is entered
+pub record ProcessPaired (r : Run) (p : ℕ) (ix ix' : List ℕ) (k : Option ℕ) : Type 0 where
+  pub faulty : IfSome k (λ k. IsState r p k × Faulty r p k)
+  pub clear : (l : ℕ) → IsState r p l → IfSome k (λ k. l < k) → Clear r p l
+  pub backed : k ≡ None → Backed r ix → Backed r ix'
+  pub met : k ≡ None → (l : ℕ) → IsState r p l → Met r ix' p l
+  pub kept : k ≡ None → (j l : ℕ) → IsState r j l → j ≢ p → Met r ix j l → Met r ix' j l
 
--- processes 0 to n - 1 are paired: of each the first faulty state, or 0
-pub record ProcessesPaired (r : Run) (n : ℕ) (bad ix : List ℕ) : Type 0 where
-  pub faulty : (p : ℕ) → p < n → get_or bad p 0 ≢ 0 → IsState r p (get_or bad p 0) × Faulty r p (get_or bad p 0)
-  pub clear : (p l : ℕ) → p < n → IsState r p l → (get_or bad p 0 ≡ 0) ⊎ (l < get_or bad p 0) → Clear r p l
-  pub backed : ((p : ℕ) → p < n → get_or bad p 0 ≡ 0) → Backed r ix
-  pub met : ((p : ℕ) → p < n → get_or bad p 0 ≡ 0) → (p l : ℕ) → p < n → IsState r p l → Met r ix p l
+-- processes 0 to n - 1 are paired: of each the first faulty state, or none
+pub record ProcessesPaired (r : Run) (n : ℕ) (bad : List (Option ℕ)) (ix : List ℕ) : Type 0 where
+  pub faulty : (p : ℕ) → p < n → IfSome (get_or bad p None) (λ k. IsState r p k × Faulty r p k)
+  pub clear : (p l : ℕ) → p < n → IsState r p l → IfSome (get_or bad p None) (λ k. l < k) → Clear r p l
+  pub backed : ((p : ℕ) → p < n → get_or bad p None ≡ None) → Backed r ix
+  pub met : ((p : ℕ) → p < n → get_or bad p None ≡ None) → (p l : ℕ) → p < n → IsState r p l → Met r ix p l

@@ -6,7 +6,6 @@ ghost use Rattle.judged.specs.Judged.{Judged};
 ghost use Rattle.judged.specs.Inner.{NewlyListed, PairingJudged, Clocked, next_of, Undone, ProcessRoom, CircleJudged, ClockJudged, Ready};
 
 use crate::faults::earliest;
-use judged::FirstFault;
 use order::{clock_faults, order_all};
 use pairing::pair_all;
 use record::reasons::{CIRCLE, CLOCK, PAIRING, refusal_of};
@@ -16,54 +15,52 @@ use run::index::count_of;
 use run::pass::read_run;
 
 // The first record in file order that is a second send or receive, or a receive with no send; where there is none, the partners.
-fn first_unpaired(run: &[u8], index: &mut [u16], n: u16) -> FirstFault
+fn first_unpaired(run: &[u8], index: &mut [u16], n: u16) -> Option<usize>
     requires { NewlyListed run.now index.old n }
     ensures { PairingJudged run.now index.new result × Listed run.now index.new }
 {
-    let mut bad = [0u16; 8];
+    let mut bad = [None; 8];
     pair_all(run, index, &mut bad, n);
     earliest(run, index, &bad, n)
 }
 
-// The state behind the last one that is done, or 0 where all are.
-fn next_of(done: u16, count: u16) -> u16
+// The state behind the last one that is done, where not all are.
+fn next_of(done: u16, count: u16) -> Option<u16>
     requires { count ≤ 512 }
     ensures { result ≡ next_of done count }
 {
-    if done < count { done + 1 } else { 0 }
+    if done < count { Some(done + 1) } else { None }
 }
 
-// Of each process the first state that isn't done, or 0.
-fn undone(index: &[u16], done: &[u16], bad: &mut [u16], n: u16)
+// Of each process the first state that isn't done.
+fn undone(index: &[u16], done: &[u16], bad: &mut [Option<u16>], n: u16)
     requires { ProcessRoom n index.now done.now bad.old }
     ensures { Undone n index.now done.now bad.new }
 {
-    let mut p: u16 = 0;
-    while p < n {
+    for p in 0..n {
         let row = p as usize;
         bad[row] = next_of(done[row], count_of(index, p));
-        p += 1;
     }
 }
 
 // The first record in file order whose state is on a circle or after one; where there is none, the clocks.
-fn first_circular(run: &[u8], index: &mut [u16], n: u16) -> FirstFault
+fn first_circular(run: &[u8], index: &mut [u16], n: u16) -> Option<usize>
     requires { Matched run.now index.old × (n ≡ (head_of run.now).processes) }
     ensures { CircleJudged run.now index.new result × Matched run.now index.new }
 {
     let mut done = [0u16; 8];
     order_all(run, index, &mut done, n);
-    let mut bad = [0u16; 8];
+    let mut bad = [None; 8];
     undone(index, &done, &mut bad, n);
     earliest(run, index, &bad, n)
 }
 
 // The first record in file order with a clock number other than the rule's.
-fn first_wrong_clock(run: &[u8], index: &[u16], n: u16) -> FirstFault
+fn first_wrong_clock(run: &[u8], index: &[u16], n: u16) -> Option<usize>
     requires { Clocked run.now index.now n }
     ensures { ClockJudged run.now result }
 {
-    let mut bad = [0u16; 8];
+    let mut bad = [None; 8];
     clock_faults(run, index, &mut bad, n);
     earliest(run, index, &bad, n)
 }
@@ -74,16 +71,13 @@ fn judge_states(run: &[u8], index: &mut [u16], head: Head) -> RunReading
     ensures { Judged run.now result × Ready run.now index.new result }
 {
     let n = head.processes;
-    let unpaired = first_unpaired(run, index, n);
-    if let FirstFault::At(place) = unpaired {
+    if let Some(place) = first_unpaired(run, index, n) {
         return RunReading::Refused(refusal_of(File::Run, PAIRING, place));
     }
-    let circular = first_circular(run, index, n);
-    if let FirstFault::At(place) = circular {
+    if let Some(place) = first_circular(run, index, n) {
         return RunReading::Refused(refusal_of(File::Run, CIRCLE, place));
     }
-    let wrong = first_wrong_clock(run, index, n);
-    if let FirstFault::At(place) = wrong {
+    if let Some(place) = first_wrong_clock(run, index, n) {
         return RunReading::Refused(refusal_of(File::Run, CLOCK, place));
     }
     RunReading::Accepted(head)

@@ -2,15 +2,16 @@
 // when the state before it is, and at a receive the state ahead of the send.
 #![tactic(auto)]
 
-ghost use Rattle.std.specs.Prelude.{◌≡◌, ◌≢◌, ◌≤◌, ◌<◌, max, length, replicate};
+ghost use Rattle.std.specs.Prelude.{◌≡◌, ◌≢◌, ◌≤◌, ◌<◌, length, replicate};
+ghost use Rattle.std.specs.Option.{IfSome};
 ghost use Rattle.model.specs.Run.{IsState};
 ghost use Rattle.record.specs.Record.{head_of};
 ghost use Rattle.run.specs.Said.{run_in};
-ghost use Rattle.run.specs.Index.{Matched, index_size};
+ghost use Rattle.run.specs.Index.{HasSlot, Matched, index_size};
 ghost use Rattle.judged.specs.Judged.{WrongClock};
 ghost use Rattle.judged.specs.Inner.{Clocked};
 ghost use Rattle.judged.specs.Firsts.{FirstOf, FirstsTo};
-ghost use Rattle.judged.specs.Order.{AheadIs, SlotOrNone, ClockRoom, number_at, number_of, Written};
+ghost use Rattle.judged.specs.Order.{AheadIs, SlotOrNone, ClockRoom, number_at, number_ahead, number_of, Written};
 ghost use Rattle.judged.specs.Order.{Ordering, Advanced, Swept, Ordered, Compared};
 
 use judged::Ahead;
@@ -21,38 +22,17 @@ use run::index::{clock_at, count_of, enter_clock, event_at, partner_of, place_of
 use states::held::channel_at;
 
 // The state ahead of the send that state k of process p receives.
-fn ahead_of(run: &[u8], index: &[u16], p: u16, k: u16) -> Ahead
+fn ahead_of(run: &[u8], index: &[u16], p: u16, k: u16) -> Option<Ahead>
     requires { Matched run.now index.now × IsState (run_in run.now) p k }
-    ensures { AheadIs (run_in run.now) p k result.process result.state }
+    ensures { AheadIs (run_in run.now) p k result }
 {
-    let event = event_at(run, index, p, k);
-    match event {
-        Event::Start => Ahead {
-            process: 0,
-            state: 0,
-        },
-        Event::Internal => Ahead {
-            process: 0,
-            state: 0,
-        },
-        Event::Send(_) => Ahead {
-            process: 0,
-            state: 0,
-        },
-        Event::Receive(m) => {
-            let process = channel_at(run, m.channel).from;
-            Ahead {
-                process,
-                state: partner_of(index, p, k) - 1,
-            }
-        }
-    }
-}
-
-fn larger(a: u16, b: u16) -> u16
-    ensures { result ≡ max a b }
-{
-    if a < b { b } else { a }
+    let Event::Receive(m) = event_at(run, index, p, k) else {
+        return None;
+    };
+    Some(Ahead {
+        process: channel_at(run, m.channel).from,
+        state: partner_of(index, p, k) - 1,
+    })
 }
 
 // Place i of the clock of state k of process p, 0 where k is 0.
@@ -66,29 +46,35 @@ fn number_at(index: &[u16], p: u16, k: u16, i: u16) -> u16
     clock_at(index, p, k, i)
 }
 
+// Place i of the clock of the state ahead of the send, 0 where nothing is received.
+fn number_ahead(index: &[u16], ahead: Option<Ahead>, i: u16) -> u16
+    requires { (length index.now ≡ index_size) × IfSome ahead (λ a. HasSlot a.process a.state) × (i < 8) }
+    ensures { result ≡ number_ahead index.now ahead i }
+{
+    ahead.map_or(0, |a| clock_at(index, a.process, a.state, i))
+}
+
 // Place i of the clock of state k of process p, by the rule.
-fn number_of(index: &[u16], p: u16, k: u16, ahead: Ahead, i: u16) -> u16
-    requires { ClockRoom index.now p k ahead.process ahead.state × (i < 8) }
-    ensures { result ≡ number_of index.now p k ahead.process ahead.state i }
+fn number_of(index: &[u16], p: u16, k: u16, ahead: Option<Ahead>, i: u16) -> u16
+    requires { ClockRoom index.now p k ahead × (i < 8) }
+    ensures { result ≡ number_of index.now p k ahead i }
 {
     if i == p {
         return k;
     }
     let own = number_at(index, p, k - 1, i);
-    let other = number_at(index, ahead.process, ahead.state, i);
-    larger(own, other)
+    let other = number_ahead(index, ahead, i);
+    own.max(other)
 }
 
 // Writes the clock of state k of process p, n numbers.
-fn clock_row(index: &mut [u16], n: u16, p: u16, k: u16, ahead: Ahead)
-    requires { ClockRoom index.old p k ahead.process ahead.state × (n ≤ 8) × (ahead.state ≢ 0 → ahead.process ≢ p) }
-    ensures { Written n p k ahead.process ahead.state index.old index.new }
+fn clock_row(index: &mut [u16], n: u16, p: u16, k: u16, ahead: Option<Ahead>)
+    requires { ClockRoom index.old p k ahead × (n ≤ 8) × IfSome ahead (λ a. a.process ≢ p) }
+    ensures { Written n p k ahead index.old index.new }
 {
-    let mut i: u16 = 0;
-    while i < n {
+    for i in 0..n {
         let number = number_of(index, p, k, ahead, i);
         enter_clock(index, p, k, i, number);
-        i += 1;
     }
 }
 
@@ -103,8 +89,7 @@ fn advance(run: &[u8], index: &mut [u16], done: &mut [u16], n: u16, p: u16) -> b
         return false;
     }
     let ahead = ahead_of(run, index, p, k + 1);
-    let other = ahead.process as usize;
-    if done[other] < ahead.state {
+    if ahead.is_some_and(|a| done[a.process as usize] < a.state) {
         return false;
     }
     clock_row(index, n, p, k + 1, ahead);
@@ -118,11 +103,8 @@ fn sweep(run: &[u8], index: &mut [u16], done: &mut [u16], n: u16) -> bool
     ensures { Swept run.now n n done.old done.new index.new result }
 {
     let mut moved = false;
-    let mut p: u16 = 0;
-    while p < n {
-        let more = advance(run, index, done, n, p);
-        moved = moved | more;
-        p += 1;
+    for p in 0..n {
+        moved |= advance(run, index, done, n, p);
     }
     moved
 }
@@ -132,11 +114,7 @@ pub fn order_all(run: &[u8], index: &mut [u16], done: &mut [u16], n: u16)
     requires { Matched run.now index.old × (done.old ≡ replicate 8 0) × (n ≡ (head_of run.now).processes) }
     ensures { Ordered run.now done.new index.new × Matched run.now index.new }
 {
-    loop {
-        if !sweep(run, index, done, n) {
-            break;
-        }
-    }
+    while sweep(run, index, done, n) {}
 }
 
 // Whether the record of state k of process p has a clock number other than the table's.
@@ -145,42 +123,23 @@ fn differs(run: &[u8], index: &[u16], n: u16, p: u16, k: u16) -> bool
     ensures { Compared run.now p k result }
 {
     let at = place_of(index, p, k) + CLOCK_PLACE;
-    let mut i: u16 = 0;
-    while i < n {
-        if u16_at(run, at + 2 * (i as usize)) != clock_at(index, p, k, i) {
-            return true;
-        }
-        i += 1;
-    }
-    false
+    (0..n).any(|i| u16_at(run, at + 2 * (i as usize)) != clock_at(index, p, k, i))
 }
 
-// The first state of process p with such a number, or 0.
-fn clock_fault(run: &[u8], index: &[u16], n: u16, p: u16) -> u16
+// The first state of process p with such a number.
+fn clock_fault(run: &[u8], index: &[u16], n: u16, p: u16) -> Option<u16>
     requires { Clocked run.now index.now n × (p < n) }
     ensures { FirstOf run.now (WrongClock run.now) p result }
 {
-    let count = count_of(index, p);
-    let mut k: u16 = 1;
-    while k <= count {
-        if differs(run, index, n, p, k) {
-            return k;
-        }
-        k += 1;
-    }
-    0
+    (1..count_of(index, p) + 1).find(|&k| differs(run, index, n, p, k))
 }
 
 // Of every process, into `bad`.
-pub fn clock_faults(run: &[u8], index: &[u16], bad: &mut [u16], n: u16)
+pub fn clock_faults(run: &[u8], index: &[u16], bad: &mut [Option<u16>], n: u16)
     requires { Clocked run.now index.now n × (length bad.old ≡ 8) }
     ensures { FirstsTo run.now (WrongClock run.now) n bad.new }
 {
-    let mut p: u16 = 0;
-    while p < n {
-        let first = clock_fault(run, index, n, p);
-        let row = p as usize;
-        bad[row] = first;
-        p += 1;
+    for p in 0..n {
+        bad[p as usize] = clock_fault(run, index, n, p);
     }
 }

@@ -10,5 +10,4 @@ returns-then-i-p c = simp (eq-eqb _ _ c.if-i-p.true)
 pub returns : goal.returns
 returns c =
     let a = c.args in
-    number_other a.index.now a.p a.k a.ahead.process a.ahead.state a.i _ _ _
-    c.if-i-p.false c.number_at-own.ensures c.number_at-other.ensures c.larger.ensures
+    number_other a.index.now a.p a.k a.ahead a.i _ _ _ c.if-i-p.false c.number_at-own.ensures c.number_ahead-other.ensures c.max.ensures

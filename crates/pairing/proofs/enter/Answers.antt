@@ -1,41 +1,27 @@
 -- `enter` meets its contract: the message that is received is on a channel of the run, and only the channel's sender may have sent it.
 use native.Mathlib.Omega.{arith}
-use mathlib.Core.Path.{◌≡◌, ap, ◌∙◌}
-use Prim.Native.Nat.{◌<◌}
-use lib.ListN.{length}
-use Rattle.model.specs.Run.{channel}
-use Rattle.model.specs.Known.{Sides}
+use mathlib.Core.Path.{◌∙◌}
 use Rattle.model.proofs.Pairing.{received_there}
-use Rattle.run.specs.Said.{run_in}
 use Rattle.judged.proofs.Pairs.{received_none, received_one, send_there}
-use Rattle.run.proofs.Listed.{sides, channels_are, channel_record, channel_same, listed_slot}
+use Rattle.judged.proofs.Processes.{on_channel, sender_of}
+use Rattle.run.proofs.Listed.{sides, channel_record, listed_slot}
 use Rattle.run.proofs.Kept.{kept_on, kept_set, kept_listed}
 use Rattle.pairing.proofs.enter.Goals as goal
 
-pub send_of-l-requires : goal.send_of-l-requires
-send_of-l-requires c =
-    let ends : Sides (run_in c.args.run.now) = sides _ c.requires.0.read in
-    let on-channel : c.args.message.channel < length (run_in c.args.run.now).channels = (ends.receiver _ _ _ c.requires.2).0 in
-    (c.requires.0, c.requires.1, omega (arith, on-channel, channels_are _ c.requires.0.read))
+pub send_of-requires : goal.send_of-requires
+send_of-requires c = (c.requires.0, c.requires.1, (on_channel _ _ c.requires.0 c.requires.2).1)
 
-pub returns-then-l-eq0 : goal.returns-then-l-eq0
-returns-then-l-eq0 c =
-    let ends : Sides (run_in c.args.run.now) = sides _ c.requires.0.read in
-    record { received = received_none _ (ends) _ _ _ c.requires.2 _ _ c.if-l-eq0.true c.send_of-l.ensures; listed = c.requires.0 }
+pub returns-in_default-clause-received : goal.returns-in_default-clause-received
+returns-in_default-clause-received c = received_none _ (sides _ c.requires.0.read) _ _ _ c.requires.2 _ c.in_default.ensures
 
 pub channel_at-from-requires : goal.channel_at-from-requires
-channel_at-from-requires c =
-    let ends : Sides (run_in c.args.run.now) = sides _ c.requires.0.read in
-    let on-channel : c.args.message.channel < length (run_in c.args.run.now).channels = (ends.receiver _ _ _ c.requires.2).0 in
-    channel_record _ c.requires.0.read _ (on-channel)
+channel_at-from-requires c = channel_record _ c.requires.0.read _ (on_channel _ _ c.requires.0 c.requires.2).0
 
 pub enter_partner-requires : goal.enter_partner-requires
 enter_partner-requires c =
-    let ends : Sides (run_in c.args.run.now) = sides _ c.requires.0.read in
-    let on-channel : c.args.message.channel < length (run_in c.args.run.now).channels = (ends.receiver _ _ _ c.requires.2).0 in
-    let from : let a = c.args in c.channel_at-from.result.from ≡ (channel (run_in a.run.now) a.message.channel).from = ap (λ x. x.from) (c.channel_at-from.ensures ∙ channel_same _ c.requires.0.read _ on-channel) in
     let l = c.requires.0 in
-    (l.long, rw (from) (listed_slot _ _ l (send_there _ (ends) _ _ _ c.requires.2 _ c.if-l-eq0.false c.send_of-l.ensures)))
+    let sender = sender_of l (on_channel _ _ l c.requires.2).1 c.channel_at-from.ensures in
+    (l.long, rw sender.same (listed_slot _ _ l (send_there _ (sides _ l.read) _ _ _ c.requires.2 c.in-Some.ensures)))
 
 pub enter_partner-requires-2 : goal.enter_partner-requires-2
 enter_partner-requires-2 c =
@@ -44,7 +30,9 @@ enter_partner-requires-2 c =
 
 pub returns : goal.returns
 returns c =
-    let ends : Sides (run_in c.args.run.now) = sides _ c.requires.0.read in
-    let on-channel : c.args.message.channel < length (run_in c.args.run.now).channels = (ends.receiver _ _ _ c.requires.2).0 in
-    let from : let a = c.args in c.channel_at-from.result.from ≡ (channel (run_in a.run.now) a.message.channel).from = ap (λ x. x.from) (c.channel_at-from.ensures ∙ channel_same _ c.requires.0.read _ on-channel) in
-    rw (c.enter_partner-2.ensures, c.enter_partner.ensures, from) (record { received = received_one _ (ends) _ _ _ c.requires.2 _ _ c.if-l-eq0.false c.send_of-l.ensures; listed = kept_listed (kept_on (kept_set _ _ _ (omega arith)) (kept_set _ _ _ (omega arith))) c.requires.0 })
+    let l = c.requires.0 in
+    let sender = sender_of l (on_channel _ _ l c.requires.2).1 c.channel_at-from.ensures in
+    rw (c.enter_partner-2.ensures, c.enter_partner.ensures, sender.same) (record {
+      received = received_one _ (sides _ l.read) _ _ _ c.requires.2 _ _ c.in-Some.ensures;
+      listed = kept_listed (kept_on (kept_set _ _ _ (omega arith)) (kept_set _ _ _ (omega arith))) l;
+    })

@@ -1,13 +1,8 @@
 -- `pair_row` meets its contract. The invariant of its loop: the states ahead of k are clear and entered, and the marks are above what they carry.
--- The measure is how many states are left.
-use Prim.Native.Nat.{◌+◌, ◌≤◌, ◌-◌}
 use Rattle.run.specs.Said.{run_in}
 use Rattle.judged.specs.Pairing.{PairingAt}
 use Rattle.judged.proofs.Partners.{Partway}
 use Rattle.pairing.proofs.pair_row.Given as goal
 
 abbrev pub invariant-loop-k : goal.invariant-loop-k
-invariant-loop-k l = (1 ≤ l.k) × PairingAt l.run l.index l.marks l.hints l.p l.k × Partway (run_in l.run) l.p l.k l.initial.index l.index
-
-abbrev pub decreases-loop-k : goal.decreases-loop-k
-decreases-loop-k l = l.count + 1 - l.k
+invariant-loop-k l = PairingAt l.run l.index l.marks l.hints l.p l.k × Partway (run_in l.run) l.p l.k l.initial.index l.index

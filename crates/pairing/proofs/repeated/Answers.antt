@@ -1,42 +1,20 @@
 -- `repeated` meets its contract: a number at or above its channel's mark is new, and any other is looked for.
 use native.Mathlib.Omega.{arith}
-use Prim.Native.Nat.{◌<◌}
-use lib.ListN.{length}
-use Rattle.judged.proofs.Pairs.{mark_less, repeats_raised, repeats_found}
+use Rattle.judged.proofs.Pairs.{mark_inside, repeats_raised, repeats_found}
 use Rattle.run.proofs.Listed.{process_of}
 use Rattle.pairing.proofs.repeated.Goals as goal
 
 pub offset_bounds-marks-i : goal.offset_bounds-marks-i
-offset_bounds-marks-i c =
-    let inside : (c.mark_at-i.result < 32) × (c.mark_at-i.result < length c.args.marks.now) = let a = c.args in
-    let w = c.requires.2 in
-    let h = mark_less a.sends a.message.channel w.channel in
-    (omega (arith, c.mark_at-i.ensures), omega (arith, c.mark_at-i.ensures, w.long)) in
-    omega (arith, inside.0)
+offset_bounds-marks-i c = let inside = mark_inside c.requires.2 in omega arith
 
 pub bounds-marks-i : goal.bounds-marks-i
-bounds-marks-i c =
-    let inside : (c.mark_at-i.result < 32) × (c.mark_at-i.result < length c.args.marks.now) = let a = c.args in
-    let w = c.requires.2 in
-    let h = mark_less a.sends a.message.channel w.channel in
-    (omega (arith, c.mark_at-i.ensures), omega (arith, c.mark_at-i.ensures, w.long)) in
-    omega (arith, inside.1)
+bounds-marks-i c = let inside = mark_inside c.requires.2 in omega arith
 
 pub offset_bounds-marks-i-then-marks-i : goal.offset_bounds-marks-i-then-marks-i
-offset_bounds-marks-i-then-marks-i c =
-    let inside : (c.mark_at-i.result < 32) × (c.mark_at-i.result < length c.args.marks.now) = let a = c.args in
-    let w = c.requires.2 in
-    let h = mark_less a.sends a.message.channel w.channel in
-    (omega (arith, c.mark_at-i.ensures), omega (arith, c.mark_at-i.ensures, w.long)) in
-    omega (arith, inside.0)
+offset_bounds-marks-i-then-marks-i c = let inside = mark_inside c.requires.2 in omega arith
 
 pub bounds-marks-i-then-marks-i : goal.bounds-marks-i-then-marks-i
-bounds-marks-i-then-marks-i c =
-    let inside : (c.mark_at-i.result < 32) × (c.mark_at-i.result < length c.args.marks.now) = let a = c.args in
-    let w = c.requires.2 in
-    let h = mark_less a.sends a.message.channel w.channel in
-    (omega (arith, c.mark_at-i.ensures), omega (arith, c.mark_at-i.ensures, w.long)) in
-    omega (arith, inside.1)
+bounds-marks-i-then-marks-i c = let inside = mark_inside c.requires.2 in omega arith
 
 pub returns-then-marks-i : goal.returns-then-marks-i
 returns-then-marks-i c =
@@ -48,5 +26,5 @@ find-requires c =
     let r = c.requires in
     record { listed = r.0; process = process_of _ r.0.read r.1; first = omega arith; last = omega (arith, r.1.there) }
 
-pub returns : goal.returns
-returns c = repeats_found _ _ _ _ _ _ _ (rw c.mark_at-i.ensures at c.if-marks-i.false) c.find.ensures
+pub returns-else-marks-i : goal.returns-else-marks-i
+returns-else-marks-i c = rw c.is_some.ensures (repeats_found _ _ _ _ _ _ _ (rw c.mark_at-i.ensures at c.if-marks-i.false) c.find.ensures)

@@ -1,18 +1,15 @@
--- `earliest` meets its contract. The invariant of its loop: the lowest place of the processes below p. The measure is how many are left.
+-- `earliest` meets its contract: what the chain gives is the least of the processes' places.
+use mathlib.Core.Path.{sym, ◌∙◌}
 use native.Mathlib.Omega.{arith}
-use mathlib.Core.Path.{◌≡◌}
-use Prim.Native.Nat.{zero-le}
-use Rattle.judged.proofs.Firsts.{earliest_start}
+use Rattle.std.proofs.Common.{rules}
+use Rattle.std.proofs.lemmas.Iterator.{YieldsList-from_range}
+use Rattle.std.proofs.lemmas.Iterator.Adapters.{option_map_id}
+use Rattle.std.proofs.lemmas.Iterator.Consumers.{YieldsList-from_filter_map, min_from_yields_List}
+use Rattle.judged.proofs.Firsts.{place_in, earliest_least}
 use Rattle.judging.proofs.faults.earliest.Goals as goal
 
-pub loop-p-init : goal.loop-p-init
-loop-p-init c = (zero-le, earliest_start _ _)
-
-pub with_process-first-requires : goal.with_process-first-requires
-with_process-first-requires c = (c.requires _ c.loop-p-test.true, c.loop-p.invariant.1)
-
-pub loop-p-preserved : goal.loop-p-preserved
-loop-p-preserved c = (omega arith, c.with_process-first.ensures)
-
 pub returns : goal.returns
-returns c = let e : c.loop-p.p ≡ c.args.n = omega arith in rw (← e) c.loop-p.invariant.1
+returns c =
+    let a = c.args in
+    let least = min_from_yields_List _ _ c.min.ensures.ran (YieldsList-from_filter_map _ (place_in a.run.now a.bad.now) (YieldsList-from_range 0 a.n a.n c.filter_map.ensures.source (omega arith)) c.filter_map.ensures.closure (λ x r q k. search rules)) in
+    rw (sym (option_map_id _) ∙ least) (earliest_least a.run.now a.bad.now a.n)
