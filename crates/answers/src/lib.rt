@@ -10,7 +10,7 @@ ghost use Rattle.answers.specs.Lines.{answer_lines, count_lines, found_lines, re
 ghost use Rattle.answers.specs.Made.{MadeOf};
 
 use channels::{channel_lines, count_line};
-use questions::Load;
+use transit::Load;
 use record::{File, Refusal};
 use search::Outcome;
 use writing::{pair_line, row_lines, text};
@@ -19,7 +19,7 @@ use writing::{pair_line, row_lines, text};
 fn refused(refusal: Refusal, buffer: &mut [u8]) -> usize
     ensures { Put (refused_line refusal) 0 result buffer.old buffer.new }
 {
-    let number = refusal.number as usize;
+    let number = u16::from(refusal.reason) as usize;
     let place = refusal.place;
     let file = refusal.file;
     match file {

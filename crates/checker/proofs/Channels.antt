@@ -13,7 +13,6 @@ use Rattle.record.specs.Record.{head_of}
 use Rattle.record.specs.declared.Head.{Head}
 use Rattle.record.specs.declared.Refusal.{Refusal}
 use Rattle.run.specs.Said.{run_in}
-use Rattle.run.specs.declared.RunReading.TheVariants as R
 use Rattle.run.proofs.Listed.{ok, processes_are}
 use Rattle.judged.specs.Judged.{Judged}
 use Rattle.judged.specs.Accepted.{RunAccepted}
@@ -28,10 +27,10 @@ use Rattle.checker.specs.Answered.Answered.{run_refused, cond_refused, few, none
 use Rattle.checker.specs.Answered.AnsweredListed.{few_row, unlisted, listed}
 use Rattle.checker.proofs.Rows.{take_written}
 
-not_refused : {s : List ℕ} {x : Refusal} → Judged s (R.Refused x) → RunAccepted s → ⊥
+not_refused : {s : List ℕ} {x : Refusal} → Judged s (Err x) → RunAccepted s → ⊥
 not_refused {s} j k = let e = judged_one s j k in never (cc)
 
-pub run-refused : {s c lent counts : List ℕ} {stamps : List ℤ} {x : Refusal} → Judged s (R.Refused x) → AnsweredListed s c lent lent counts counts stamps stamps (Err x)
+pub run-refused : {s c lent counts : List ℕ} {stamps : List ℤ} {x : Refusal} → Judged s (Err x) → AnsweredListed s c lent lent counts counts stamps stamps (Err x)
 run-refused {x = x} j = unlisted (Err x) (λ e. never (cc)) (λ b. absurd (not_refused j b.run)) (run_refused x j refl) refl refl
 
 -- the cut that stands in the lent places

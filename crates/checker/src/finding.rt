@@ -5,13 +5,11 @@ ghost use Rattle.search.specs.Prepared.{Prepared};
 ghost use Rattle.checker.specs.Answered.{Answered, AnsweredListed};
 ghost use Rattle.checker.specs.Inner.{Searching};
 
-use condition::ConditionReading;
 use condition::pass::read_condition;
 use cut::listing::{list_channels, write};
 use judging::whole::judge_run;
-use record::reasons::{NO_ROOM, refusal_of};
+use record::reasons::{Reason, refusal_of};
 use record::{File, Head, Refusal};
-use run::RunReading;
 use run::index::INDEX_SIZE;
 use search::Outcome;
 use search::eliminate::search;
@@ -50,7 +48,7 @@ fn search_for(
 {
     let size = head.processes as usize;
     if lent.len() < size {
-        return Err(refusal_of(File::Run, NO_ROOM, 0));
+        return Err(refusal_of(File::Run, Reason::NoRoom, 0));
     }
     let mut row = [1u16; 8];
     search_in(run, index, cond, clauses, &mut row[..size], lent)
@@ -68,14 +66,8 @@ fn with_condition(
     ensures { Answered run.now cond.now lent.old lent.new result }
 {
     let mut clauses = [0u16; 32];
-    let reading = read_condition(cond, head, &mut clauses);
-    match reading {
-        ConditionReading::Refused(refusal) => Err(refusal),
-        ConditionReading::Accepted(count) => {
-            let size = count as usize;
-            search_for(run, index, cond, &clauses[..size], head, lent)
-        }
-    }
+    let count = read_condition(cond, head, &mut clauses)?;
+    search_for(run, index, cond, &clauses[..count as usize], head, lent)
 }
 
 // The first consistent cut at which every clause holds, into the first lent places.
@@ -83,11 +75,8 @@ pub fn first_cut(run: &[u8], cond: &[u8], lent: &mut [u16]) -> Result<Outcome, R
     ensures { Answered run.now cond.now lent.old lent.new result }
 {
     let mut index = [0u16; INDEX_SIZE];
-    let reading = judge_run(run, &mut index);
-    match reading {
-        RunReading::Refused(refusal) => Err(refusal),
-        RunReading::Accepted(head) => with_condition(run, &index, cond, head, lent),
-    }
+    let head = judge_run(run, &mut index)?;
+    with_condition(run, &index, cond, head, lent)
 }
 
 // Beside an accepted run, where there is a place for each channel in both rows.
@@ -147,9 +136,6 @@ pub fn first_cut_listed(
         counts.old counts.new stamps.old stamps.new result }
 {
     let mut index = [0u16; INDEX_SIZE];
-    let reading = judge_run(run, &mut index);
-    match reading {
-        RunReading::Refused(refusal) => Err(refusal),
-        RunReading::Accepted(head) => listed_for(run, &index, cond, head, lent, counts, stamps),
-    }
+    let head = judge_run(run, &mut index)?;
+    listed_for(run, &index, cond, head, lent, counts, stamps)
 }

@@ -1,4 +1,6 @@
 -- What follows from a run's acceptance alone: it is known to the model, and its pairing has no fault exactly if it is.
+use Rattle.std.proofs.Common.{Result, Ok}
+use Rattle.record.specs.declared.Refusal.{Refusal}
 use mathlib.Core.Path.{◌≡◌, refl, sym, ap, ◌∙◌, subst}
 use mathlib.Core.Bool.{Bool, true, false}
 use mathlib.Core.List.{List}
@@ -15,10 +17,7 @@ use Rattle.model.proofs.Lists.{some_at, at_some}
 use Rattle.model.proofs.Pairing.{view, from_side, sent_there, received_there}
 use Rattle.model.proofs.Messages.{sending_send, receiving_receive}
 use Rattle.record.specs.declared.Head.{Head}
-use Rattle.run.specs.declared.RunReading.{RunReading}
-use Rattle.run.specs.declared.RunReading.TheVariants.{Accepted}
 use Rattle.run.specs.Read.{read_of}
-use Rattle.record.specs.Pass.Read.{accepted}
 use Rattle.run.specs.Said.{states_of, run_in}
 use Rattle.judged.specs.Judged.{Judged, Unpaired, Faultless}
 use Rattle.judged.specs.Judged.Judged.{by_pass, by_pairing, by_circle, by_clock, wholly}
@@ -28,7 +27,7 @@ use Rattle.run.proofs.Listed.{sides, place_rises}
 use Rattle.judged.proofs.Pairs.{same_parts}
 use Rattle.judged.proofs.Verdicts.{clear_paired, clear_known}
 
-module _ (s : List ℕ) (read : read_of s ≡ accepted (states_of s)) where
+module _ (s : List ℕ) (read : read_of s ≡ Ok (states_of s)) where
   abbrev r : Run
   r = run_in s
 
@@ -83,14 +82,14 @@ module _ (s : List ℕ) (read : read_of s ≡ accepted (states_of s)) where
     has_send = known.origin p k;
   })
 
-pub accepted_read : {s : List ℕ} {a : RunReading} {h : Head} → Judged s a → a ≡ Accepted h → read_of s ≡ accepted (states_of s)
+pub accepted_read : {s : List ℕ} {a : Result Head Refusal} {h : Head} → Judged s a → a ≡ Ok h → read_of s ≡ Ok (states_of s)
 accepted_read (by_pass x d) e = never (cc)
 accepted_read (by_pairing x d w) e = d
 accepted_read (by_circle x d n w) e = d
 accepted_read (by_clock x d n m w) e = d
 accepted_read (wholly d n m o) e = d
 
-pub accepted_known : {s : List ℕ} {a : RunReading} {h : Head} → Judged s a → a ≡ Accepted h → Known (run_in s)
+pub accepted_known : {s : List ℕ} {a : Result Head Refusal} {h : Head} → Judged s a → a ≡ Ok h → Known (run_in s)
 accepted_known (by_pass x d) e = never (cc)
 accepted_known (by_pairing x d w) e = never (cc)
 accepted_known {s} (by_circle x d n w) e = paired_known s d n

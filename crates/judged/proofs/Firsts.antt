@@ -1,4 +1,5 @@
 -- The first record in file order: from the first faulty state of each process. Letters as in specs/Firsts.
+use Rattle.std.proofs.Common.{Ok}
 use mathlib.Core.Path.{◌≡◌, refl, sym, ap, ◌∙◌, subst}
 use mathlib.Core.Logic.{⊎_elim}
 use mathlib.Core.List.{List, [], ◌∷◌, ◌++◌, append-nil}
@@ -19,7 +20,6 @@ use Rattle.model.specs.Run.{IsState, count}
 use Rattle.model.proofs.Lists.{le_or_lt}
 use Rattle.record.specs.Record.{head_of}
 use Rattle.run.specs.Read.{read_of}
-use Rattle.record.specs.Pass.Read.{accepted}
 use Rattle.run.specs.Said.{states_of, run_in, place_of}
 use Rattle.run.specs.Index.{Listed}
 use Rattle.run.proofs.Listed.{process_of, place_rises}
@@ -123,7 +123,7 @@ module _ (s : List ℕ) (bad : List (Option ℕ)) where
       go None e w = rw (append-nil front) (skip n (reduce min front) e w)
       go (Some k) e w = rw (reduce_next front (place_of s n k)) (take n k (reduce min front) e w)
 
-module _ (s : List ℕ) (read : read_of s ≡ accepted (states_of s)) (Fault : ℕ → ℕ → Type 0) (n : ℕ) (bad : List (Option ℕ)) (all : n ≡ (head_of s).processes)
+module _ (s : List ℕ) (read : read_of s ≡ Ok (states_of s)) (Fault : ℕ → ℕ → Type 0) (n : ℕ) (bad : List (Option ℕ)) (all : n ≡ (head_of s).processes)
     (w : FirstsTo s Fault n bad) where
   inside : {p k : ℕ} → IsState (run_in s) p k → p < n
   inside t = omega (arith, all, process_of s read t)

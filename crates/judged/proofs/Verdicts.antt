@@ -1,4 +1,5 @@
 -- What the pairing and the order tell of the whole run: faults are the paper's, and where there is none the run is known, with its partners and its clocks.
+use Rattle.std.proofs.Common.{Result, Ok, Err}
 use mathlib.Core.Path.{◌≡◌, refl, sym, ap, ◌∙◌, subst}
 use mathlib.Core.Logic.{◌⊎◌, inl, inr, ⊎_elim, ◌≢◌}
 use mathlib.Core.Bool.{Bool, true, false, cond}
@@ -26,11 +27,8 @@ use Rattle.model.proofs.Messages.{sending_send, receiving_receive}
 use Rattle.record.specs.Record.{head_of}
 use Rattle.record.specs.declared.Head.{Head}
 use Rattle.record.specs.declared.Refusal.{Refusal}
-use Rattle.run.specs.declared.RunReading.{RunReading}
-use Rattle.run.specs.declared.RunReading.TheVariants.{Accepted, Refused}
 use Rattle.record.specs.Pass.{Read}
 use Rattle.run.specs.Read.{read_of}
-use Rattle.record.specs.Pass.Read.{refused, accepted}
 use Rattle.record.specs.Pass.{places_in}
 use Rattle.run.specs.Said.{states_of, run_in, place_of}
 use Rattle.run.specs.Index.{partner_at, Partnered, Listed, Fresh, index_size, partners_part}
@@ -46,7 +44,7 @@ use Rattle.judged.specs.Pairing.Faulty.{again, alone}
 use Rattle.judged.proofs.Pairs.{not_both, same_parts, parts_same}
 use Rattle.judged.proofs.Firsts.{first_of_here, first_judged}
 
-module _ (s : List ℕ) (read : read_of s ≡ accepted (states_of s)) where
+module _ (s : List ℕ) (read : read_of s ≡ Ok (states_of s)) where
   abbrev r : Run
   r = run_in s
 
@@ -200,19 +198,19 @@ module _ (s ix done : List ℕ) (bad : List (Option ℕ)) (n : ℕ) (w : Listed 
 
 -- ---- what the pass gives
 
-pub refused_by_pass : {s ix : List ℕ} {r : RunReading} (x : Refusal) → RunPassed s (read_of s) r ix → r ≡ Refused x → read_of s ≡ refused x
+pub refused_by_pass : {s ix : List ℕ} {r : Result Head Refusal} (x : Refusal) → RunPassed s (read_of s) r ix → r ≡ Err x → read_of s ≡ Err x
 refused_by_pass {s} x w same = go (read_of s) (sym same ∙ w.answer)
   where
-    go : (v : Read) → Refused x ≡ reading s v → v ≡ refused x
-    go (refused y) e = cc
-    go (accepted qs) e = never (cc)
+    go : (v : Read) → Err x ≡ reading s v → v ≡ Err x
+    go (Err y) e = cc
+    go (Ok qs) e = never (cc)
 
-pub listed_by_pass : {s ix : List ℕ} {r : RunReading} (h : Head) → RunPassed s (read_of s) r ix → r ≡ Accepted h → length ix ≡ index_size → Listed s ix × Fresh partners_part ix × (h ≡ head_of s)
+pub listed_by_pass : {s ix : List ℕ} {r : Result Head Refusal} (h : Head) → RunPassed s (read_of s) r ix → r ≡ Ok h → length ix ≡ index_size → Listed s ix × Fresh partners_part ix × (h ≡ head_of s)
 unfolding states_of
 listed_by_pass {s} {ix} h w same long = go (read_of s) refl (sym same ∙ w.answer)
   where
-    go : (v : Read) → read_of s ≡ v → Accepted h ≡ reading s v → Listed s ix × Fresh partners_part ix × (h ≡ head_of s)
-    go (refused y) d e = never (cc)
-    go (accepted qs) d e =
-        let states : read_of s ≡ accepted (states_of s) = d ∙ ap accepted (sym (ap places_in d)) in
+    go : (v : Read) → read_of s ≡ v → Ok h ≡ reading s v → Listed s ix × Fresh partners_part ix × (h ≡ head_of s)
+    go (Err y) d e = never (cc)
+    go (Ok qs) d e =
+        let states : read_of s ≡ Ok (states_of s) = d ∙ ap Ok (sym (ap places_in d)) in
         (record { read = states; index = w.index (states_of s) states; long = long }, w.fresh (states_of s) states, cc)

@@ -1,11 +1,12 @@
 -- Words of the contracts of the inner functions that judge a whole run; the promises don't use them. Here s are a run's bytes and ix its index.
+use Rattle.std.specs.Prelude.{Result, Ok, Err}
+use Rattle.record.specs.declared.Refusal.{Refusal}
+use Rattle.record.specs.declared.Head.{Head}
 use Rattle.std.specs.Prelude.{◌≡◌, cond, List, ℕ, ◌+◌, ◌≤◌, ◌<◌, ltb, length, get_or, Option, Some, None}
 use Rattle.model.specs.Cut.{AfterCircle}
 use Rattle.model.specs.Known.{Known}
 use Rattle.model.specs.Clocks.{Clocks}
 use Rattle.record.specs.Record.{head_of}
-use Rattle.run.specs.declared.RunReading.{RunReading}
-use Rattle.run.specs.declared.RunReading.TheVariants.{Accepted, Refused}
 use Rattle.run.specs.Said.{run_in}
 use Rattle.run.specs.Index.{Listed, Fresh, Partnered, clock_in, IndexHolds, index_size, partners_part}
 use Rattle.judged.specs.Judged.{Unpaired, WrongClock}
@@ -51,6 +52,6 @@ abbrev pub ClockJudged : (s : List ℕ) → Option ℕ → Type 0
 ClockJudged s = FirstJudged s (WrongClock s) (Unit {0})
 
 -- of an accepted run the index is filled
-abbrev pub Ready : (s ix : List ℕ) → RunReading → Type 0
-Ready s ix (Accepted h) = IndexHolds s ix
-Ready s ix (Refused x) = Unit {0}
+abbrev pub Ready : (s ix : List ℕ) → Result Head Refusal → Type 0
+Ready s ix (Ok h) = IndexHolds s ix
+Ready s ix (Err x) = Unit {0}

@@ -1,18 +1,17 @@
 -- What judging a whole run gives: the pass's refusal, or 11, 12, 13 at the first record in file order, or that the run is accepted.
+use Rattle.std.specs.Prelude.{Result, Ok, Err}
+use Rattle.record.specs.declared.Head.{Head}
 use Rattle.std.specs.Prelude.{◌≡◌, ℕ, ◌≤◌, ◌<◌, List, T}
 use Rattle.model.specs.declared.Message.{Message}
 use Rattle.model.specs.declared.Event.TheVariants.{Receive}
 use Rattle.model.specs.Run.{processes, into, IsState, sending, receiving, same_message, Paired}
 use Rattle.model.specs.Cut.{AfterCircle, ClockIs}
 use Rattle.record.specs.Record.{head_of}
-use Rattle.record.specs.Refusal.{number, refusal}
-use Rattle.record.specs.Refusal.Reason.{pairing, circle, clock}
+use Rattle.record.specs.Refusal.{refusal}
+use Rattle.record.specs.declared.reasons.Reason.TheVariants.{Pairing, Circle, Clock}
 use Rattle.record.specs.declared.File.TheVariants.{Run}
 use Rattle.record.specs.declared.Refusal.{Refusal}
-use Rattle.run.specs.declared.RunReading.{RunReading}
-use Rattle.run.specs.declared.RunReading.TheVariants.{Accepted, Refused}
 use Rattle.run.specs.Read.{read_of}
-use Rattle.record.specs.Pass.Read.{refused, accepted}
 use Rattle.run.specs.Said.{states_of, run_in, place_of, recorded_clock}
 
 -- s are the run's bytes; p and k, and i and j, a process and the number of one of its states
@@ -45,9 +44,9 @@ module _ (s : List ℕ) where
   Faultless Fault = (p k : ℕ) → IsState (run_in s) p k → ¬ Fault p k
 
   -- in this order: refused by the pass; 11; 12, on a circle or after one; 13; accepted
-  pub data Judged : RunReading → Type 0 where
-    by_pass : (x : Refusal) → read_of s ≡ refused x → Judged (Refused x)
-    by_pairing : (at : ℕ) → read_of s ≡ accepted (states_of s) → FirstAt Unpaired at → Judged (Refused (refusal Run (number pairing) at))
-    by_circle : (at : ℕ) → read_of s ≡ accepted (states_of s) → Faultless Unpaired → FirstAt (AfterCircle (run_in s)) at → Judged (Refused (refusal Run (number circle) at))
-    by_clock : (at : ℕ) → read_of s ≡ accepted (states_of s) → Faultless Unpaired → Faultless (AfterCircle (run_in s)) → FirstAt WrongClock at → Judged (Refused (refusal Run (number clock) at))
-    wholly : read_of s ≡ accepted (states_of s) → Faultless Unpaired → Faultless (AfterCircle (run_in s)) → Faultless WrongClock → Judged (Accepted (head_of s))
+  pub data Judged : Result Head Refusal → Type 0 where
+    by_pass : (x : Refusal) → read_of s ≡ Err x → Judged (Err x)
+    by_pairing : (at : ℕ) → read_of s ≡ Ok (states_of s) → FirstAt Unpaired at → Judged (Err (refusal Run Pairing at))
+    by_circle : (at : ℕ) → read_of s ≡ Ok (states_of s) → Faultless Unpaired → FirstAt (AfterCircle (run_in s)) at → Judged (Err (refusal Run Circle at))
+    by_clock : (at : ℕ) → read_of s ≡ Ok (states_of s) → Faultless Unpaired → Faultless (AfterCircle (run_in s)) → FirstAt WrongClock at → Judged (Err (refusal Run Clock at))
+    wholly : read_of s ≡ Ok (states_of s) → Faultless Unpaired → Faultless (AfterCircle (run_in s)) → Faultless WrongClock → Judged (Ok (head_of s))

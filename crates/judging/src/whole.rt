@@ -8,9 +8,8 @@ ghost use Rattle.judged.specs.Inner.{NewlyListed, PairingJudged, Clocked, next_o
 use crate::faults::earliest;
 use order::{clock_faults, order_all};
 use pairing::pair_all;
-use record::reasons::{CIRCLE, CLOCK, PAIRING, refusal_of};
-use record::{File, Head};
-use run::RunReading;
+use record::reasons::{Reason, refusal_of};
+use record::{File, Head, Refusal};
 use run::index::count_of;
 use run::pass::read_run;
 
@@ -66,31 +65,28 @@ fn first_wrong_clock(run: &[u8], index: &[u16], n: u16) -> Option<usize>
 }
 
 // 11, then 12, then 13.
-fn judge_states(run: &[u8], index: &mut [u16], head: Head) -> RunReading
+fn judge_states(run: &[u8], index: &mut [u16], head: Head) -> Result<Head, Refusal>
     requires { Listed run.now index.old × Fresh partners_part index.old × (head ≡ head_of run.now) }
     ensures { Judged run.now result × Ready run.now index.new result }
 {
     let n = head.processes;
     if let Some(place) = first_unpaired(run, index, n) {
-        return RunReading::Refused(refusal_of(File::Run, PAIRING, place));
+        return Err(refusal_of(File::Run, Reason::Pairing, place));
     }
     if let Some(place) = first_circular(run, index, n) {
-        return RunReading::Refused(refusal_of(File::Run, CIRCLE, place));
+        return Err(refusal_of(File::Run, Reason::Circle, place));
     }
     if let Some(place) = first_wrong_clock(run, index, n) {
-        return RunReading::Refused(refusal_of(File::Run, CLOCK, place));
+        return Err(refusal_of(File::Run, Reason::Clock, place));
     }
-    RunReading::Accepted(head)
+    Ok(head)
 }
 
 // A whole run: its index filled, or the first refusal. The index comes as zeros, which every caller has just made it.
-pub fn judge_run(run: &[u8], index: &mut [u16]) -> RunReading
+pub fn judge_run(run: &[u8], index: &mut [u16]) -> Result<Head, Refusal>
     requires { index.old ≡ replicate index_size 0 }
     ensures { Judged run.now result × Ready run.now index.new result }
 {
-    let reading = read_run(run, index);
-    let RunReading::Accepted(head) = reading else {
-        return reading;
-    };
+    let head = read_run(run, index)?;
     judge_states(run, index, head)
 }

@@ -2,7 +2,7 @@
 use crate::refusals;
 use condition::pass::read_condition;
 use condition::reading::step;
-use condition::{Clause, ConditionReading, ConditionStep, Item, Test};
+use condition::{Clause, Item, Test};
 use record::Head;
 use std::{fmt, io, iter};
 
@@ -85,18 +85,17 @@ struct Placed {
 }
 
 fn read(cond: &[u8], place: usize, owed: u16) -> Option<Placed> {
-    match step(cond, place, owed) {
-        ConditionStep::Got(item, next) => Some(Placed {
-            place,
-            item,
-            next,
-            owed: match item {
-                Item::Head(clauses) => clauses,
-                _ => owed.saturating_sub(1),
-            },
-        }),
-        ConditionStep::Refused(_) => None,
-    }
+    let (item, next) = step(cond, place, owed).ok()?;
+    let owed = match item {
+        Item::Head(clauses) => clauses,
+        _ => owed.saturating_sub(1),
+    };
+    Some(Placed {
+        place,
+        item,
+        next,
+        owed,
+    })
 }
 
 // The record after one; nothing follows the end.
@@ -126,10 +125,9 @@ pub fn show(rt: &impl Print, cond: &[u8]) -> io::Result<()> {
         processes: 8,
         channels: 16,
     };
-    let reading = read_condition(cond, most, &mut places);
-    match reading {
-        ConditionReading::Accepted(_) => lines(rt, cond, cond.len()),
-        ConditionReading::Refused(refusal) => {
+    match read_condition(cond, most, &mut places) {
+        Ok(_) => lines(rt, cond, cond.len()),
+        Err(refusal) => {
             lines(rt, cond, refusal.place)?;
             refusals::show(rt, cond, refusal)
         }

@@ -1,7 +1,7 @@
 // The records of a run, one by one and in words.
 use reader::read_at;
 use record::layout::{CLOCK_PLACE, VALUES_PLACE};
-use record::{Record, StateFields, Step};
+use record::{Record, StateFields};
 use std::{fmt, io};
 
 // A record at its place, and the place after it.
@@ -13,14 +13,12 @@ pub struct Placed {
 }
 
 pub fn read(run: &[u8], place: usize) -> Option<Placed> {
-    match read_at(run, place) {
-        Step::Got(record, next) => Some(Placed {
-            place,
-            record,
-            next,
-        }),
-        Step::Refused(_) => None,
-    }
+    let (record, next) = read_at(run, place).ok()?;
+    Some(Placed {
+        place,
+        record,
+        next,
+    })
 }
 
 // The record after one; nothing follows the end.

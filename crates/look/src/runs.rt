@@ -5,8 +5,8 @@ use circles::{Spot, clock};
 use files::words::Numbers;
 use judging::whole::judge_run;
 use record::reading::head_of;
+use record::reasons::Reason;
 use record::{Record, Refusal, StateFields};
-use run::RunReading;
 use run::index::INDEX_SIZE;
 use std::{io, iter};
 
@@ -79,10 +79,10 @@ fn more(
         return Ok(());
     };
     let spot = Spot { process, number };
-    match refusal.number {
-        11 => pairing_line(rt, run, place, f),
-        12 => circles::show(rt, run, index, spot),
-        13 => clock_line(rt, index, head_of(run).processes, place, spot),
+    match refusal.reason {
+        Reason::Pairing => pairing_line(rt, run, place, f),
+        Reason::Circle => circles::show(rt, run, index, spot),
+        Reason::Clock => clock_line(rt, index, head_of(run).processes, place, spot),
         _ => Ok(()),
     }
 }
@@ -104,10 +104,9 @@ fn refused(
 pub fn show(rt: &impl Print, run: &[u8]) -> io::Result<()> {
     let mut index = [0u16; INDEX_SIZE];
     let mut counts = [0u16; 8];
-    let reading = judge_run(run, &mut index);
-    match reading {
-        RunReading::Accepted(_) => lines(rt, run, run.len(), &mut counts),
-        RunReading::Refused(refusal) => {
+    match judge_run(run, &mut index) {
+        Ok(_) => lines(rt, run, run.len(), &mut counts),
+        Err(refusal) => {
             lines(rt, run, refusal.place, &mut counts)?;
             refused(rt, run, &index, &counts, refusal)
         }

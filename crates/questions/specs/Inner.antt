@@ -1,8 +1,8 @@
 -- Words of the contracts of the inner functions; the promises don't use them.
 use Rattle.std.specs.Prelude.{◌≡◌, List, ℕ}
 use Rattle.model.specs.Cut.{IsCut}
-use Rattle.record.specs.Refusal.{number, refusal}
-use Rattle.record.specs.Refusal.Reason.{wrong_cut}
+use Rattle.record.specs.Refusal.{refusal}
+use Rattle.record.specs.declared.reasons.Reason.TheVariants.{WrongCut}
 use Rattle.record.specs.declared.File.TheVariants.{Run}
 use Rattle.record.specs.declared.Head.{Head}
 use Rattle.record.specs.declared.Refusal.{Refusal}
@@ -14,4 +14,4 @@ abbrev pub IsGiven : List ℕ → List ℕ → Head → Type 0
 IsGiven ix cut head = (s : List ℕ) → Told s ix head → IsCut (run_in s) cut
 
 abbrev pub NotGiven : List ℕ → List ℕ → Head → Refusal → Type 0
-NotGiven ix cut head x = (x ≡ refusal Run (number wrong_cut) 0) × ((s : List ℕ) → Told s ix head → ¬ IsCut (run_in s) cut)
+NotGiven ix cut head x = (x ≡ refusal Run WrongCut 0) × ((s : List ℕ) → Told s ix head → ¬ IsCut (run_in s) cut)

@@ -6,7 +6,6 @@ use crate::given::given_cut;
 use cut::clocks::consistent;
 use judging::whole::judge_run;
 use record::{Head, Refusal};
-use run::RunReading;
 use run::index::INDEX_SIZE;
 
 // Of an accepted run: 16, or what the clocks say.
@@ -23,9 +22,6 @@ pub fn is_consistent(run: &[u8], cut: &[u16]) -> Result<bool, Refusal>
     ensures { AskedConsistent run.now cut.now result }
 {
     let mut index = [0u16; INDEX_SIZE];
-    let reading = judge_run(run, &mut index);
-    match reading {
-        RunReading::Refused(refusal) => Err(refusal),
-        RunReading::Accepted(head) => consistent_in(run, &index, cut, head),
-    }
+    let head = judge_run(run, &mut index)?;
+    consistent_in(run, &index, cut, head)
 }

@@ -5,9 +5,8 @@ ghost use Rattle.questions.specs.Questions.{AskedEach};
 use crate::given::given_cut;
 use cut::listing::list_channels;
 use judging::whole::judge_run;
-use record::reasons::{NO_ROOM, refusal_of};
+use record::reasons::{Reason, refusal_of};
 use record::{File, Head, Refusal};
-use run::RunReading;
 use run::index::INDEX_SIZE;
 
 // Of an accepted run: 16, 15, or the numbers.
@@ -25,7 +24,7 @@ fn list_in(
     given_cut(index, cut, head)?;
     let size = head.channels as usize;
     if (counts.len() < size) | (stamps.len() < size) {
-        return Err(refusal_of(File::Run, NO_ROOM, 0));
+        return Err(refusal_of(File::Run, Reason::NoRoom, 0));
     }
     list_channels(run, index, cut, head.channels, counts, stamps);
     Ok(())
@@ -41,9 +40,6 @@ pub fn messages_on_each(
     ensures { AskedEach run.now cut.now counts.old counts.new stamps.old stamps.new result }
 {
     let mut index = [0u16; INDEX_SIZE];
-    let reading = judge_run(run, &mut index);
-    match reading {
-        RunReading::Refused(refusal) => Err(refusal),
-        RunReading::Accepted(head) => list_in(run, &index, cut, head, counts, stamps),
-    }
+    let head = judge_run(run, &mut index)?;
+    list_in(run, &index, cut, head, counts, stamps)
 }

@@ -4,9 +4,8 @@ ghost use Rattle.questions.specs.Questions.{AskedMessages};
 
 use crate::given::given_cut;
 use judging::whole::judge_run;
-use record::reasons::{CHANNEL, refusal_of};
+use record::reasons::{Reason, refusal_of};
 use record::{File, Head, Refusal};
-use run::RunReading;
 use run::index::INDEX_SIZE;
 use transit::Load;
 use transit::scan::load_on;
@@ -24,7 +23,7 @@ fn messages_in(
 {
     given_cut(index, cut, head)?;
     if head.channels <= channel {
-        return Err(refusal_of(File::Run, CHANNEL, 0));
+        return Err(refusal_of(File::Run, Reason::NoChannel, 0));
     }
     Ok(load_on(run, index, cut, channel))
 }
@@ -34,9 +33,6 @@ pub fn messages_on(run: &[u8], cut: &[u16], channel: u16) -> Result<Option<Load>
     ensures { AskedMessages run.now cut.now channel result }
 {
     let mut index = [0u16; INDEX_SIZE];
-    let reading = judge_run(run, &mut index);
-    match reading {
-        RunReading::Refused(refusal) => Err(refusal),
-        RunReading::Accepted(head) => messages_in(run, &index, cut, channel, head),
-    }
+    let head = judge_run(run, &mut index)?;
+    messages_in(run, &index, cut, channel, head)
 }

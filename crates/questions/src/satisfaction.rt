@@ -4,11 +4,9 @@ ghost use Rattle.search.specs.Prepared.{Prepared};
 ghost use Rattle.questions.specs.Questions.{AskedSatisfies};
 
 use crate::given::given_cut;
-use condition::ConditionReading;
 use condition::pass::read_condition;
 use judging::whole::judge_run;
 use record::{Head, Refusal};
-use run::RunReading;
 use run::index::INDEX_SIZE;
 use search::satisfying::satisfied;
 
@@ -40,14 +38,8 @@ fn satisfies_in(
     ensures { AskedSatisfies run.now cond.now cut.now result }
 {
     let mut clauses = [0u16; 32];
-    let reading = read_condition(cond, head, &mut clauses);
-    match reading {
-        ConditionReading::Refused(refusal) => Err(refusal),
-        ConditionReading::Accepted(count) => {
-            let size = count as usize;
-            satisfies_at(run, index, cond, &clauses[..size], cut, head)
-        }
-    }
+    let count = read_condition(cond, head, &mut clauses)?;
+    satisfies_at(run, index, cond, &clauses[..count as usize], cut, head)
 }
 
 // Whether the cut is consistent and every clause of the condition holds there.
@@ -55,9 +47,6 @@ pub fn satisfies(run: &[u8], cond: &[u8], cut: &[u16]) -> Result<bool, Refusal>
     ensures { AskedSatisfies run.now cond.now cut.now result }
 {
     let mut index = [0u16; INDEX_SIZE];
-    let reading = judge_run(run, &mut index);
-    match reading {
-        RunReading::Refused(refusal) => Err(refusal),
-        RunReading::Accepted(head) => satisfies_in(run, &index, cond, cut, head),
-    }
+    let head = judge_run(run, &mut index)?;
+    satisfies_in(run, &index, cond, cut, head)
 }

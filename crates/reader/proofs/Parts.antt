@@ -12,8 +12,7 @@ use Rattle.record.specs.declared.File.{File}
 use Rattle.record.specs.declared.File.TheVariants.{Run, Condition}
 use Rattle.record.specs.declared.Refusal.{Refusal}
 use Rattle.reader.specs.declared.Part.{Part}
-use Rattle.reader.specs.Inner.{has_record}
-use Rattle.reader.specs.Shown.{file_of, shown_count, part_of}
+use Rattle.reader.specs.Shown.{file_of, has_record, shown_count, part_of}
 
 -- no more is shown than is left
 pub shown_within : (s : List ℕ) (at : ℕ) (after : Bool) → shown_count s at after ≤ length s - at
@@ -32,9 +31,9 @@ behind Condition run condition = refl
 module _ (run condition : Bor (List ℕ)) {p q : Part} {b : Bor (List ℕ)} (e : p ≡ q) (f : b ≡ file_of p.file run condition) where
   -- the part that is shown ends within its file
   pub part_within : (x : Refusal) → q ≡ part_of run.now condition.now x → p.place + p.count ≤ length b.now
-  part_within x h = rw (f, behind p.file run condition, e, h) (go (has_record x.number) refl)
+  part_within x h = rw (f, behind p.file run condition, e, h) (go (has_record x.reason) refl)
     where
-      go : (t : Bool) → has_record x.number ≡ t →
+      go : (t : Bool) → has_record x.reason ≡ t →
           let w = part_of run.now condition.now x in w.place + w.count ≤ length (file_of w.file run.now condition.now)
       go true h = rw (h) (omega (arith, shown_within (file_of x.file run.now condition.now) x.place x.after))
       go false h = rw (h) (omega arith)

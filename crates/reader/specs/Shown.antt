@@ -6,7 +6,7 @@ use Rattle.record.specs.declared.File.TheVariants.{Run, Condition}
 use Rattle.record.specs.declared.Refusal.{Refusal}
 use Rattle.record.specs.Record.{length_at}
 use Rattle.record.specs.Refusal.{number}
-use Rattle.record.specs.Refusal.Reason.{too_long, no_room}
+use Rattle.record.specs.declared.reasons.Reason.{Reason}
 use Rattle.reader.specs.declared.Part.{Part}
 
 abbrev pub file_of : {A : Type 0} → File → A → A → A
@@ -27,9 +27,12 @@ abbrev pub front : Part
 front = record { file = Run; place = 0; count = 0 }
 
 -- 1 and everything from 15 on is of no record
+abbrev pub has_record : Reason → Bool
+has_record r = not (eqb (number r) 1) && ltb (number r) 15
+
 abbrev pub part_of : List ℕ → List ℕ → Refusal → Part
 part_of run condition r =
-    cond (not (eqb r.number (number too_long)) && ltb r.number (number no_room)) (record_part r.file (file_of r.file run condition) r) front
+    cond (has_record r.reason) (record_part r.file (file_of r.file run condition) r) front
 
 -- the slice is that part of one of two lent ones: it begins at its place there, and has its bytes
 pub record IsPart (run condition : Bor (List ℕ)) (p : Part) (r : Bor (List ℕ)) : Type 0 where

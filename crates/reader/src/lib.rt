@@ -8,7 +8,7 @@ ghost use Rattle.std.specs.Prelude.{◌≡◌};
 ghost use Rattle.record.specs.Record.{step_at};
 
 use record::reading::step;
-use record::{File, Step};
+use record::{File, Record, Refusal};
 
 #[derive(Clone, Copy)]
 pub struct Reader<'a> {
@@ -39,7 +39,7 @@ impl<'a> Reader<'a> {
     }
 
     // The record at the reader's place with the place after it, or else the refusal.
-    pub fn next(self) -> Step
+    pub fn next(self) -> Result<(Record, usize), Refusal>
         ensures { result ≡ step_at self.entry.run.now self.entry.place }
     {
         step(self.run, self.place)
@@ -54,14 +54,14 @@ impl<'a> Reader<'a> {
 }
 
 // The same reading by way of a reader, for callers that hold none: its parameters are plain, so their proofs need no walk.
-pub fn read_at(run: &[u8], place: usize) -> Step
+pub fn read_at(run: &[u8], place: usize) -> Result<(Record, usize), Refusal>
     ensures { result ≡ step_at run.now place }
 {
     Reader::new(run, place).next()
 }
 
 // The record at the front.
-pub fn first(run: &[u8]) -> Step
+pub fn first(run: &[u8]) -> Result<(Record, usize), Refusal>
     ensures { result ≡ step_at run.now 0 }
 {
     read_at(run, 0)

@@ -1,18 +1,20 @@
 // The bytes shown for a refusal: a part of the run or of the condition, whichever is at fault.
 ghost use Rattle.std.specs.Prelude.{◌≡◌};
-ghost use Rattle.reader.specs.Shown.{file_of, shown_count, front, part_of, IsPart};
-ghost use Rattle.reader.specs.Inner.{has_record};
+ghost use Rattle.reader.specs.Shown.{file_of, has_record, shown_count, front, part_of, IsPart};
 
 use crate::Part;
 use record::bytes::{left_from, u16_at};
-use record::reasons::{NO_ROOM, TOO_LONG};
+use record::reasons::Reason;
 use record::{File, Refusal};
 
-// Whether a refusal of this number is of a record, and so has bytes to show.
-fn has_record(number: u16) -> bool
-    ensures { result ≡ has_record number }
+// Whether a refusal for this reason is of a record, and so has bytes to show.
+fn has_record(reason: Reason) -> bool
+    ensures { result ≡ has_record reason }
 {
-    (number != TOO_LONG) & (number < NO_ROOM)
+    !matches!(
+        reason,
+        Reason::TooLong | Reason::NoRoom | Reason::WrongCut | Reason::NoChannel
+    )
 }
 
 // The run's empty front part.
@@ -51,7 +53,7 @@ fn count_of(bytes: &[u8], at: usize, after: bool) -> usize
 pub fn refused_part<'a>(run: &'a [u8], cond: &'a [u8], refusal: Refusal) -> Part
     ensures { result ≡ part_of run.now cond.now refusal }
 {
-    if !has_record(refusal.number) {
+    if !has_record(refusal.reason) {
         return front_part();
     }
     let file = refusal.file;

@@ -1,4 +1,6 @@
 -- An accepted run and an accepted condition: what the search is given, and what it tells of the condition's clauses.
+use Rattle.std.proofs.Common.{Result, Ok}
+use Rattle.record.specs.declared.Refusal.{Refusal}
 use mathlib.Core.Path.{◌≡◌, sym, ap, subst}
 use mathlib.Core.List.{List}
 use Prim.Native.Nat.{ℕ}
@@ -15,8 +17,6 @@ use Rattle.record.specs.Pass.{places_in}
 use Rattle.condition.specs.Inner.{ConditionPassed}
 use Rattle.condition.specs.Read.{read_of, clauses_in}
 use Rattle.condition.specs.Known.{clauses_for}
-use Rattle.condition.specs.declared.ConditionReading.{ConditionReading}
-use Rattle.condition.specs.declared.ConditionReading.TheVariants as C
 use Rattle.condition.proofs.Accepted.{condition_known}
 use Rattle.condition.proofs.Told.{condition_accepted, clauses_placed}
 use Rattle.search.specs.declared.Outcome.{Outcome}
@@ -26,8 +26,8 @@ use Rattle.search.specs.Search.Searched.{found, none}
 use Rattle.search.specs.Prepared.{Prepared}
 
 -- from the reading of the condition
-pub condition_prepared : (s c : List ℕ) (head : Head) (same : head ≡ head_of s) {ix row : List ℕ} {r : ConditionReading} → ConditionPassed (read_of c head) r row
-    → (count : ℕ) → r ≡ C.Accepted count → length row ≡ 32 → IndexHolds s ix → Prepared s c ix (take count row)
+pub condition_prepared : (s c : List ℕ) (head : Head) (same : head ≡ head_of s) {ix row : List ℕ} {r : Result ℕ Refusal} → ConditionPassed (read_of c head) r row
+    → (count : ℕ) → r ≡ Ok count → length row ≡ 32 → IndexHolds s ix → Prepared s c ix (take count row)
 condition_prepared s c head same p count told long w =
     record { index = w; condition = condition_accepted s c head same p count told long; places = clauses_placed s c head same p count told long }
 

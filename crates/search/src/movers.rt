@@ -3,7 +3,6 @@ ghost use Rattle.std.specs.Prelude.{◌≡◌};
 ghost use Rattle.model.specs.Cut.{IsCut};
 ghost use Rattle.record.specs.Record.{head_of};
 ghost use Rattle.run.specs.Read.{read_of};
-ghost use Rattle.record.specs.Pass.Read.{accepted};
 ghost use Rattle.run.specs.Said.{states_of, run_in};
 ghost use Rattle.run.specs.Index.{IndexHolds};
 ghost use Rattle.condition.specs.Clauses.{test_of, clause_of};
@@ -40,7 +39,7 @@ pub(crate) fn local_mover(run: &[u8], index: &[u16], cut: &[u16], clause: Local)
 
 // The end of its channel that a false clause names, where so many messages are in transit.
 fn end_named(run: &[u8], clause: Test, count: usize) -> Option<usize>
-    requires { (read_of run.now ≡ accepted (states_of run.now)) × TestKnown (head_of run.now) clause }
+    requires { (read_of run.now ≡ Ok (states_of run.now)) × TestKnown (head_of run.now) clause }
     ensures { EndNamed (run_in run.now) clause.channel (test_of clause.test clause.operand) count result }
 {
     let ends = channel_at(run, clause.channel);

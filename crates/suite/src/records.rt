@@ -1,6 +1,6 @@
 // What stands in a run at a place, by the reader.
 use crate::printing::print_verdict;
-use record::{Record, Step};
+use record::{Record, Refusal};
 use std::io;
 
 fn record_line(rt: &impl Print, record: Record, next: usize) -> io::Result<()> {
@@ -28,7 +28,7 @@ fn record_line(rt: &impl Print, record: Record, next: usize) -> io::Result<()> {
     }
 }
 
-fn step_at(run: &[u8], place: u16) -> Step {
+fn step_at(run: &[u8], place: u16) -> Result<(Record, usize), Refusal> {
     match place {
         0 => reader::first(run),
         _ => reader::read_at(run, place as usize),
@@ -36,9 +36,8 @@ fn step_at(run: &[u8], place: u16) -> Step {
 }
 
 pub fn answer(rt: &impl Print, run: &[u8], place: u16) -> io::Result<()> {
-    let step = step_at(run, place);
-    match step {
-        Step::Got(record, next) => record_line(rt, record, next),
-        Step::Refused(refusal) => print_verdict(rt, Err(refusal)),
+    match step_at(run, place) {
+        Ok((record, next)) => record_line(rt, record, next),
+        Err(refusal) => print_verdict(rt, Err(refusal)),
     }
 }

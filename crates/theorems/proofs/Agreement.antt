@@ -20,12 +20,9 @@ use Rattle.model.proofs.Search.{ones, first_ones}
 use Rattle.record.specs.declared.Refusal.{Refusal}
 use Rattle.record.specs.Bytes.{u16_at}
 use Rattle.record.specs.Record.{head_of}
-use Rattle.record.specs.Pass.Read.{accepted}
 use Rattle.record.specs.declared.Head.{Head}
 use Rattle.record.proofs.Pass.{accepted_holds}
 use Rattle.run.specs.Said.{run_in, recorded_clock}
-use Rattle.run.specs.declared.RunReading.{RunReading}
-use Rattle.run.specs.declared.RunReading.TheVariants.{Accepted}
 use Rattle.judged.specs.Judged.{Judged}
 use Rattle.judged.specs.Judged.Judged.{by_pass, by_pairing, by_circle, by_clock, wholly}
 use Rattle.judged.specs.Accepted.{RunAccepted}
@@ -46,7 +43,7 @@ use Rattle.theorems.proofs.HasClock.{has_clock}
 use Rattle.theorems.proofs.Demands.{cut_in, known, size, named, found_exactly}
 
 -- each recorded clock number is the rule's: the state has a clock, and another number would be refused
-accepted_clocks : {s : List ℕ} {a : RunReading} {h : Head} → Judged s a → a ≡ Accepted h → Clocks (run_in s) (recorded_clock s)
+accepted_clocks : {s : List ℕ} {a : Result Head Refusal} {h : Head} → Judged s a → a ≡ Ok h → Clocks (run_in s) (recorded_clock s)
 unfolding Clocks
 accepted_clocks (by_pass x d) e = never (cc)
 accepted_clocks (by_pairing x d w) e = never (cc)
@@ -114,7 +111,7 @@ module _ (c : List ℕ) (h : Head) where
       (λ z y m e l. omega (arith, w.behind z, y))
       (λ z y m e l. never (cc)))
 
-  places_counted : (qs : List ℕ) → read_of c h ≡ accepted qs → length qs ≡ clause_count c
+  places_counted : (qs : List ℕ) → read_of c h ≡ Ok qs → length qs ≡ clause_count c
   unfolding read_of
   places_counted qs e = (accepted_holds (condition_pass c h) (Counted c) (λ qs. length qs ≡ clause_count c) counted_next counted_end
       (record { front = λ z. refl; behind = λ z. absurd (z refl) }) qs e).1

@@ -20,18 +20,16 @@ use Rattle.model.proofs.Decide.{has_first}
 use Rattle.model.proofs.Past.{nothing_past}
 use Rattle.model.proofs.Lattice.{fewer_clauses, no_earlier}
 use Rattle.record.specs.Refusal.{or_if, number, refusal}
-use Rattle.record.specs.Refusal.Reason.{no_room}
+use Rattle.record.specs.declared.reasons.Reason.TheVariants.{NoRoom}
 use Rattle.record.specs.Record.{head_of}
 use Rattle.record.specs.declared.File.TheVariants.{Run}
 use Rattle.record.specs.declared.Head.{Head}
 use Rattle.record.specs.declared.Refusal.{Refusal}
-use Rattle.run.specs.declared.RunReading.TheVariants as R
 use Rattle.run.specs.Said.{run_in}
 use Rattle.run.proofs.Listed.{processes_are, channels_are}
 use Rattle.judged.specs.Judged.{Judged}
 use Rattle.record.specs.Pass.{places_in}
 use Rattle.condition.specs.Read.{read_of, clauses_in}
-use Rattle.record.specs.Pass.Read.{refused, accepted}
 use Rattle.condition.specs.Clauses.{test_of}
 use Rattle.condition.specs.Judge.{test_no}
 use Rattle.condition.specs.declared.Test.{Test}
@@ -56,15 +54,15 @@ cut_in s lent = take (head_of s).processes lent
 
 module _ {s c lent lent' : List ℕ} where
   -- "Bad input is refused by number and place in the stated order": the whole run,
-  pub run_refused_first : {x : Refusal} {a : Result Outcome Refusal} → Judged s (R.Refused x) → Answered s c lent lent' a → a ≡ Err x
+  pub run_refused_first : {x : Refusal} {a : Result Outcome Refusal} → Judged s (Err x) → Answered s c lent lent' a → a ≡ Err x
   run_refused_first v w = (answered_one w (run_refused _ v refl)).0
 
   -- the whole condition,
-  pub condition_refused_next : {x : Refusal} {a : Result Outcome Refusal} → RunAccepted s → read_of c (head_of s) ≡ refused x → Answered s c lent lent' a → a ≡ Err x
+  pub condition_refused_next : {x : Refusal} {a : Result Outcome Refusal} → RunAccepted s → read_of c (head_of s) ≡ Err x → Answered s c lent lent' a → a ≡ Err x
   condition_refused_next v e w = (answered_one w (cond_refused _ v e refl)).0
 
   -- then 15.
-  pub no_room_last : {a : Result Outcome Refusal} → Both s c → length lent < (head_of s).processes → Answered s c lent lent' a → a ≡ Err (refusal Run (number no_room) 0)
+  pub no_room_last : {a : Result Outcome Refusal} → Both s c → length lent < (head_of s).processes → Answered s c lent lent' a → a ≡ Err (refusal Run NoRoom 0)
   no_room_last v h w = (answered_one w (few v h refl)).0
 
   only_found_writes : {a : Result Outcome Refusal} → Answered s c lent lent' a → ¬ (a ≡ Ok O.Found) → lent' ≡ lent
@@ -186,7 +184,7 @@ nothing_past_counts {s} {t} {c} {lent} {lent'} {other} w v same room u =
     let long : length (cut_in s lent') ≡ (head_of t).processes = f.satisfies.is_cut.size ∙ size v in
     let x = written (cut_in s lent') other (omega (arith, room, long)) in
     let o = answered_one u (first_found
-    (record { run = v; cond = subst (λ h. read_of c h ≡ accepted (places_in (read_of c h))) e n.both.cond })
+    (record { run = v; cond = subst (λ h. read_of c h ≡ Ok (places_in (read_of c h))) e n.both.cond })
     room
     (subst (λ h. First (run_in t) (clauses_in c h) (cut_in s lent')) e f)
     x) in

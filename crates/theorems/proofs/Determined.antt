@@ -18,10 +18,8 @@ use Rattle.model.proofs.LowestStamp.{lowest_one, lowest_exactly}
 use Rattle.record.specs.declared.Refusal.{Refusal}
 use Rattle.run.specs.Said.{run_in}
 use Rattle.judged.specs.Judged.{Judged}
-use Rattle.run.specs.declared.RunReading.TheVariants as R
 use Rattle.judged.proofs.Once.{judged_one}
 use Rattle.record.specs.Pass as D
-use Rattle.record.specs.Pass.Read.{refused, accepted}
 use Rattle.search.specs.declared.Outcome.{Outcome}
 use Rattle.transit.specs.declared.Load.{Load}
 use Rattle.judged.specs.Accepted.{RunAccepted}
@@ -52,18 +50,18 @@ lowest_wrote_one {r} {cut} {n} {stamps} {a} {b} v w = ext_get_or (pos 0) a b (v.
         v.lowest c x l u ∙ sym (w.lowest c x l u)
 
 -- a condition is refused once, and no accepted one is refused
-pub refused_once : {v : D.Read} {x y : Refusal} → v ≡ refused x → v ≡ refused y → x ≡ y
+pub refused_once : {v : D.Read} {x y : Refusal} → v ≡ Err x → v ≡ Err y → x ≡ y
 refused_once d e = cc
 
-not_read : {v : D.Read} {x : Refusal} {places : List ℕ} → v ≡ refused x → v ≡ accepted places → ⊥
+not_read : {v : D.Read} {x : Refusal} {places : List ℕ} → v ≡ Err x → v ≡ Ok places → ⊥
 not_read d e = never (cc)
 
 module _ {s : List ℕ} where
   -- a run is refused once, and no accepted run is refused
-  same_refusal : {x y : Refusal} → Judged s (R.Refused x) → Judged s (R.Refused y) → x ≡ y
+  same_refusal : {x y : Refusal} → Judged s (Err x) → Judged s (Err y) → x ≡ y
   same_refusal j k = let e = judged_one s j k in cc
 
-  not_both : {x : Refusal} → Judged s (R.Refused x) → RunAccepted s → ⊥
+  not_both : {x : Refusal} → Judged s (Err x) → RunAccepted s → ⊥
   not_both j k = let e = judged_one s j k in never (cc)
 
   pub answered_one : {c lent l m : List ℕ} {a b : Result Outcome Refusal} → Answered s c lent l a → Answered s c lent m b → (a ≡ b) × (l ≡ m)

@@ -30,11 +30,9 @@ use Rattle.states.specs.States.{message_of, event_of, state_at, channel_at, plac
 use Rattle.states.specs.Judge.{head_no, channel_no, name_no, field_no, start_no, side_no, state_no, lacks}
 use Rattle.record.specs.Pass.{ended, read_from, read_file}
 use Rattle.run.specs.Read.{counts_of, read_of}
-use Rattle.record.specs.Pass.Read.{accepted}
 use Rattle.run.specs.Said.{states_of, run_in, place_of, recorded_clock}
 use Rattle.judged.specs.Judged.{WrongClock, Faultless, Judged}
 use Rattle.judged.specs.Judged.Judged.{by_clock, wholly}
-use Rattle.run.specs.declared.RunReading.TheVariants as R
 use Rattle.condition.specs.Read as D
 use Rattle.condition.specs.Items as E
 use Rattle.condition.specs.Judge as J
@@ -127,7 +125,7 @@ table =
 -- ---- the run is accepted; where x is 2 it is refused
 
 module _ (x : ℕ) where
-  read_places : read_of (desks x) ≡ accepted (20 ∷ 58 ∷ 96 ∷ 134 ∷ 172 ∷ 210 ∷ [])
+  read_places : read_of (desks x) ≡ Ok (20 ∷ 58 ∷ 96 ∷ 134 ∷ 172 ∷ 210 ∷ [])
   unfolding desks u16_at u32_at signed or_if or_else length_of frame_no head_of due opening_no step_no channel_fields_at state_fields_at record_at step_at message_of event_of state_at channel_at places_of tabulate head_no channel_no name_no field_no start_no side_no state_no lacks counts_of ended read_from read_file read_of
   read_places = refl
 
@@ -135,8 +133,8 @@ module _ (x : ℕ) where
   unfolding states_of
   states_are = rw read_places refl
 
-  read : read_of (desks x) ≡ accepted (states_of (desks x))
-  read = read_places ∙ ap accepted (sym states_are)
+  read : read_of (desks x) ≡ Ok (states_of (desks x))
+  read = read_places ∙ ap Ok (sym states_are)
 
   run_is : run_in (desks x) ≡ M.desks
   unfolding desks u16_at u32_at signed head_of state_fields_at message_of event_of state_at channel_at places_of tabulate run_of run_in M.desks M.row M.note
@@ -207,7 +205,7 @@ second : IsState M.desks 1 2
 unfolding M.desks
 second = record { counted = omega arith; there = omega arith }
 
-run-refused : Judged (desks 2) (R.Refused (refusal F.Run 13 172))
+run-refused : Judged (desks 2) (Err (refusal F.Run 13 172))
 run-refused = by_clock 172 (read 2) (known_paired (desks 2) (read 2) (known 2)) (clear 2) (record {
   process = 1;
   state = 2;

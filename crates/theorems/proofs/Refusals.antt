@@ -1,4 +1,5 @@
 -- What is refused, and with which number and file: a condition that isn't linear as such, each file with its own numbers, and each call with no others.
+use Rattle.std.proofs.Common.{Ok}
 use mathlib.Core.Path.{◌≡◌, refl, sym, ap, ◌∙◌, subst}
 use mathlib.Core.Logic.{◌⊎◌, inl, inr, ⊎_elim}
 use mathlib.Core.Bool.{Bool, true, false, not, cond}
@@ -14,10 +15,9 @@ use Rattle.std.specs.Prelude.{Option, Result, Err}
 use Rattle.model.specs.Clause.{some_of, every_of}
 use Rattle.model.proofs.Lists.{le_or_lt, or_T, every_mem}
 use Rattle.model.proofs.Numbers.{never}
-use Rattle.record.specs.Refusal.{number, refusal}
-use Rattle.record.specs.Refusal.Reason.{wrong_kind}
+use Rattle.record.specs.Refusal.{refusal}
+use Rattle.record.specs.declared.reasons.Reason.TheVariants.{WrongKind}
 use Rattle.record.specs.Pass.{Pass, ended, read_file}
-use Rattle.record.specs.Pass.Read.{refused, accepted}
 use Rattle.record.specs.Inner.{read_records}
 use Rattle.record.specs.Record.{length_at, head_of, step_no, record_at, step_at}
 use Rattle.record.specs.declared.Step.TheVariants as S
@@ -31,8 +31,6 @@ use Rattle.run.proofs.Accepted.{record_stepped}
 use Rattle.judged.specs.Judged.{Judged}
 use Rattle.judged.specs.Judged.Judged.{by_pass, by_pairing, by_circle, by_clock, wholly}
 use Rattle.judged.specs.Accepted.{RunAccepted}
-use Rattle.run.specs.declared.RunReading.{RunReading}
-use Rattle.run.specs.declared.RunReading.TheVariants as W
 use Rattle.condition.specs.declared.Test.{Test}
 use Rattle.condition.specs.declared.Clause.TheVariants as K
 use Rattle.condition.specs.declared.ConditionStep.TheVariants as C
@@ -74,7 +72,7 @@ unfolding D.read_of
 not_linear_answered {s} {c} {at = at} {next} t v short w g l e u =
     let n = not_linear_refused (head_of s) t l e in
     let p = D.condition_pass c (head_of s) in
-    condition_refused_next v (read_short p short ∙ here_judged p (reached w) (I.Clause (K.Channel t)) next g (λ z. omega (arith, n, z)) ∙ ap (λ x. refused (refusal Condition x at)) n) u
+    condition_refused_next v (read_short p short ∙ here_judged p (reached w) (I.Clause (K.Channel t)) next g (λ z. omega (arith, n, z)) ∙ ap (λ x. Err (refusal Condition x at)) n) u
 
 -- ---- each refusal has its file, and one of that file's numbers
 
@@ -96,11 +94,11 @@ refusal_of : (f : File) {ns : List ℕ} (n place : ℕ) (after : Bool) → Mem�
 refusal_of f n place after m = record { number = m; file = refl }
 
 module _ (f : File) (ns : List ℕ) (kind : Memᴰ 4 ns) where
-  ended_of : (s : List ℕ) (next : ℕ) (qs : List ℕ) (x : Refusal) → ended f s next qs ≡ refused x → RefusalOf f ns x
+  ended_of : (s : List ℕ) (next : ℕ) (qs : List ℕ) (x : Refusal) → ended f s next qs ≡ Err x → RefusalOf f ns x
   unfolding ended
   ended_of s next qs x e = go (ltb next (length s)) e
     where
-      go : (t : Bool) → cond t (refused (record { file = f; number = number wrong_kind; place = next; after = true })) (accepted qs) ≡ refused x → RefusalOf f ns x
+      go : (t : Bool) → cond t (Err (record { file = f; number = WrongKind; place = next; after = true })) (Ok qs) ≡ Err x → RefusalOf f ns x
       go true e = subst (RefusalOf f ns) (refused_once refl e) (refusal_of f 4 next true kind)
       go false e = never (cc)
 
@@ -112,7 +110,7 @@ module _ {Item Known : Type 0} (p : Pass Item Known) (ns : List ℕ) (long : Mem
   abbrev Right : Refusal → Type 0
   Right = RefusalOf p.file ns
 
-  module _ (e : read_records p ≡ refused x) where
+  module _ (e : read_records p ≡ Err x) where
     -- a record is refused so, or else the pass goes on behind it
     goes_on : {at : ℕ} {k : Known} → Here p at k → ((r : Item) (next : ℕ) → p.step at k ≡ inr (r, next) → Here p next (p.more r at k) → Right x) → Right x
     goes_on {at} {k} here rest = by_step (p.step at k) refl
@@ -133,7 +131,7 @@ module _ {Item Known : Type 0} (p : Pass Item Known) (ns : List ℕ) (long : Mem
     from_here zero {at} {k} h here = goes_on here (λ r next g w. let l = on at next k r g in absurd (omega (arith, h, l.0, l.1)))
     from_here (suc m) {at} {k} h here = goes_on here (λ r next g w. let l = on at next k r g in from_here m (omega (arith, h, l.0)) w)
 
-  file_refused : read_file p ≡ refused x → Right x
+  file_refused : read_file p ≡ Err x → Right x
   file_refused e = ⊎_elim
       (λ l. from_here (sym (read_short p l) ∙ e) (length p.bytes) (omega arith) (here_start p))
       (λ l. subst Right (refused_once (read_long p l) e) (refusal_of p.file 1 0 false long))
@@ -149,7 +147,7 @@ step_refused ns s at x w e = go (eqb (step_no s at) 0) refl e
     go true k e = never (cc)
     go false k e = let same : refusal Run (step_no s at) at ≡ x = cc in subst (RefusalOf Run ns) same (refusal_of Run (step_no s at) at false (w (eqb-false _ 0 k)))
 
-pass_refused : (s : List ℕ) (x : Refusal) → R.read_of s ≡ refused x → RefusalOf Run run_numbers x
+pass_refused : (s : List ℕ) (x : Refusal) → R.read_of s ≡ Err x → RefusalOf Run run_numbers x
 unfolding R.read_of
 pass_refused s x e =
     let ns = run_numbers in
@@ -159,13 +157,13 @@ pass_refused s x e =
     (λ at next k r g. let d = record_stepped s at next r g in (d.further, d.within)) x e
 
 -- "A refusal gives the file, the number": of a run it says the run, and has one of 1 to 13,
-pub run_refusal : {s : List ℕ} {x : Refusal} → Judged s (W.Refused x) → RefusalOf Run run_numbers x
+pub run_refusal : {s : List ℕ} {x : Refusal} → Judged s (Err x) → RefusalOf Run run_numbers x
 run_refusal {s} {x} j = go j refl
   where
-    as_refused : {y : Refusal} → RefusalOf Run run_numbers y → W.Refused y ≡ W.Refused x → RefusalOf Run run_numbers x
+    as_refused : {y : Refusal} → RefusalOf Run run_numbers y → Err y ≡ Err x → RefusalOf Run run_numbers x
     as_refused {y} w e = let same : y ≡ x = cc in subst (RefusalOf Run run_numbers) same w
 
-    go : {r : RunReading} → Judged s r → r ≡ W.Refused x → RefusalOf Run run_numbers x
+    go : {r : Result Head Refusal} → Judged s r → r ≡ Err x → RefusalOf Run run_numbers x
     go (by_pass y d) e = as_refused (pass_refused s y d) e
     go (by_pairing at d w) e = as_refused (refusal_of Run 11 at false (in_list run_numbers tt)) e
     go (by_circle at d n w) e = as_refused (refusal_of Run 12 at false (in_list run_numbers tt)) e
@@ -184,7 +182,7 @@ item_refused ns c at owed x w e = go (eqb (E.step_no c at owed) 0) refl e
         let same : refusal Condition (E.step_no c at owed) at ≡ x = cc in
         subst (RefusalOf Condition ns) same (refusal_of Condition (E.step_no c at owed) at false (w (eqb-false _ 0 k)))
 
-pub condition_refusal : (c : List ℕ) (h : Head) (x : Refusal) → D.read_of c h ≡ refused x → RefusalOf Condition condition_numbers x
+pub condition_refusal : (c : List ℕ) (h : Head) (x : Refusal) → D.read_of c h ≡ Err x → RefusalOf Condition condition_numbers x
 unfolding D.read_of
 condition_refusal c h x e =
     let ns = condition_numbers in
@@ -203,13 +201,13 @@ module _ (own of-condition : List ℕ) where
   abbrev Given : Refusal → Type 0
   Given = Gives (run_numbers ++ own) of-condition
 
-  of_run : {s : List ℕ} {x y : Refusal} → Judged s (W.Refused y) → y ≡ x → Given x
+  of_run : {s : List ℕ} {x y : Refusal} → Judged s (Err y) → y ≡ x → Given x
   of_run j same = subst Given same (inl (more own (run_refusal j)))
 
   of_call : (n : ℕ) {x : Refusal} → Memᴰ n own → refusal Run n 0 ≡ x → Given x
   of_call n m same = subst Given same (inl (refusal_of Run n 0 false (Memᴰ.append_right run_numbers m)))
 
-of_the_condition : (own c : List ℕ) (h : Head) {x y : Refusal} → D.read_of c h ≡ refused y → y ≡ x → Given own condition_numbers x
+of_the_condition : (own c : List ℕ) (h : Head) {x y : Refusal} → D.read_of c h ≡ Err y → y ≡ x → Given own condition_numbers x
 of_the_condition own c h {y = y} d same = subst (Given own condition_numbers) same (inr (condition_refusal c h y d))
 
 -- `first_cut`

@@ -1,4 +1,5 @@
 -- What is in transit as the sender goes on by one state.
+use Rattle.std.proofs.Common.{Ok}
 use mathlib.Core.Path.{◌≡◌, refl, sym, ap, ◌∙◌}
 use mathlib.Core.Bool.{Bool, true, false, ◌||◌}
 use mathlib.Core.List.{List, []}
@@ -17,7 +18,6 @@ use Rattle.model.specs.Clause.{some_of}
 use Rattle.record.specs.Record.{head_of}
 use Rattle.states.specs.States.{channel_at}
 use Rattle.run.specs.Read.{read_of}
-use Rattle.record.specs.Pass.Read.{accepted}
 use Rattle.run.specs.Said.{states_of, run_in}
 use Rattle.run.proofs.Listed.{sides, channels_are, channel_same}
 use Rattle.transit.specs.declared.Span.{Span}
@@ -72,7 +72,7 @@ pub record Ends (r : Run) (c : ℕ) (e : Channel) : Type 0 where
   pub from : e.from < processes r
   pub to : e.to < processes r
 
-pub ends_of : (s : List ℕ) → read_of s ≡ accepted (states_of s) → {c : ℕ} → c < (head_of s).channels → {e : Channel} → e ≡ channel_at s c → Ends (run_in s) c e
+pub ends_of : (s : List ℕ) → read_of s ≡ Ok (states_of s) → {c : ℕ} → c < (head_of s).channels → {e : Channel} → e ≡ channel_at s c → Ends (run_in s) c e
 ends_of s read {c} h z =
     let n : c < length (run_in s).channels = omega (arith, channels_are s read) in
     let same = z ∙ channel_same s read c n in

@@ -4,7 +4,6 @@ ghost use Rattle.model.specs.Run.{IsState, sending};
 ghost use Rattle.model.specs.Cut.{IsCut, on_channel, waiting};
 ghost use Rattle.record.specs.Record.{head_of};
 ghost use Rattle.run.specs.Read.{read_of};
-ghost use Rattle.record.specs.Pass.Read.{accepted};
 ghost use Rattle.run.specs.Said.{states_of, run_in};
 ghost use Rattle.run.specs.Index.{IndexHolds};
 ghost use Rattle.transit.specs.Waiting.{as_held, span_of, OfChannel};
@@ -26,7 +25,7 @@ fn sent_on(channel: u16, event: Event) -> Option<Message>
 
 // How far the ends of a channel are at a cut.
 pub(crate) fn span_of(run: &[u8], cut: &[u16], channel: u16) -> Span
-    requires { (read_of run.now ≡ accepted (states_of run.now)) × IsCut (run_in run.now) cut.now × (channel < (head_of run.now).channels) }
+    requires { (read_of run.now ≡ Ok (states_of run.now)) × IsCut (run_in run.now) cut.now × (channel < (head_of run.now).channels) }
     ensures { result ≡ span_of (run_in run.now) cut.now channel }
 {
     let ends = channel_at(run, channel);
