@@ -136,8 +136,7 @@ fn settle(
     ensures settled { Settled (run_in run.now) p k index.old index.new marks.new result }
     ensures listed { Listed run.now index.new }
 {
-    let event = event_at(run, index, p, k);
-    match event {
+    match event_at(run, index, p, k) {
         Event::Start | Event::Internal => true,
         Event::Send(m) => !repeated(run, index, marks, p, k, true, m),
         Event::Receive(m) => {
