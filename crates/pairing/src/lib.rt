@@ -23,8 +23,8 @@ fn is_same(m: Message, n: Message) -> bool
     (m.channel, m.number) == (n.channel, n.number)
 }
 
-// Whether an event sends, or receives, the message. `sends` is the side, as in the contracts' words: an event in its place would need arms in `mark_at` and
-// `repeated` for those that carry nothing.
+// Whether an event sends, or receives, the message. `sends` is the side, as in the contracts' words: an event in its place would need arms
+// in `mark_at` and `repeated` for those that carry nothing.
 fn carries_it(event: Event, sends: bool, message: Message) -> bool
     ensures { result ≡ carries sends event message }
 {
@@ -136,8 +136,7 @@ fn settle(
     ensures settled { Settled (run_in run.now) p k index.old index.new marks.new result }
     ensures listed { Listed run.now index.new }
 {
-    let event = event_at(run, index, p, k);
-    match event {
+    match event_at(run, index, p, k) {
         Event::Start | Event::Internal => true,
         Event::Send(m) => !repeated(run, index, marks, p, k, true, m),
         Event::Receive(m) => {
@@ -146,7 +145,8 @@ fn settle(
     }
 }
 
-// The first faulty state of process p; what the states ahead of it receive is entered. No `find`: it tells nothing of what its closure changes, here the index.
+// The first faulty state of process p; what the states ahead of it receive is entered. No `find`: it tells nothing of what its closure
+// changes, here the index.
 fn pair_row(
     run: &[u8],
     index: &mut [u16],
@@ -166,8 +166,8 @@ fn pair_row(
     None
 }
 
-// Every process: its first faulty state into `bad`, and the partners. `clock_faults` and `undone` fill a row by such a loop too, of one line: a function for the
-// three would take that line as a closure, which here changes the index, the marks and the hints.
+// Every process: its first faulty state into `bad`, and the partners. `clock_faults` and `undone` fill a row by such a loop too, of one line:
+// a function for the three would take that line as a closure, which here changes the index, the marks and the hints.
 pub fn pair_all(run: &[u8], index: &mut [u16], bad: &mut [Option<u16>], n: u16)
     requires { NewlyListed run.now index.old n × (length bad.old ≡ 8) }
     ensures processes_paired { ProcessesPaired (run_in run.now) n bad.new index.new }

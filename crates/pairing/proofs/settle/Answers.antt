@@ -19,7 +19,7 @@ repeated-requires-in-Receive c =
 
 pub returns-in-Start-clause-settled : goal.returns-in-Start-clause-settled
 returns-in-Start-clause-settled c =
-    let same = sym c.event_at-event.ensures in
+    let same = sym c.event_at.ensures in
     elim c.in-Start.is [
       | inl e ↦ settled_quiet c.requires.0 _ (same ∙ e) refl refl
       | inr e ↦ settled_quiet c.requires.0 _ (same ∙ e) refl refl
