@@ -42,10 +42,9 @@ pub(crate) fn count_line(count: usize, stamp: i32, buffer: &mut [u8]) -> usize
 pub(crate) fn channel_lines(counts: &[u16], stamps: &[i32], at: usize, buffer: &mut [u8]) -> usize
     ensures { Put (channel_lines 0 counts.now stamps.now) at result buffer.old buffer.new }
 {
-    let n = counts.len().min(stamps.len());
     let mut next = at;
-    for i in 0..n {
-        next = channel_line(i, counts[i], stamps[i], next, buffer);
+    for (i, (count, stamp)) in counts.iter().zip(stamps).enumerate() {
+        next = channel_line(i, *count, *stamp, next, buffer);
     }
     next
 }
