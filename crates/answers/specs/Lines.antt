@@ -36,7 +36,7 @@ found_lines cut counts stamps = bytes "found\n" ++ row_lines (bytes "state") 0 c
 
 unfoldable pub answer_lines : Result Outcome Refusal → List ℕ → List ℕ → List ℤ → List ℕ
 answer_lines (Ok O.Found) cut counts stamps = found_lines cut counts stamps
-answer_lines (Ok O.None) cut counts stamps = bytes "none\n"
+answer_lines (Ok O.NoCut) cut counts stamps = bytes "none\n"
 answer_lines (Err x) cut counts stamps = refused_line x
 
 unfoldable pub verdict_lines : Result Bool Refusal → List ℕ

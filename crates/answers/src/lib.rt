@@ -48,7 +48,7 @@ fn put_answer(
 {
     match answer {
         Ok(Outcome::Found) => found(cut, counts, stamps, buffer),
-        Ok(Outcome::None) => text(b"none\n", 0, buffer),
+        Ok(Outcome::NoCut) => text(b"none\n", 0, buffer),
         Err(refusal) => refused(refusal, buffer),
     }
 }

@@ -25,7 +25,7 @@ pub data Answered (s c lent lent' : List ℕ) : Result Outcome Refusal → Type 
   run_refused : (x : Refusal) → Judged s (Err x) → lent' ≡ lent → Answered s c lent lent' (Err x)
   cond_refused : (x : Refusal) → RunAccepted s → read_of c (head_of s) ≡ Err x → lent' ≡ lent → Answered s c lent lent' (Err x)
   few : Both s c → length lent < (head_of s).processes → lent' ≡ lent → Answered s c lent lent' (Err (refusal Run NoRoom 0))
-  none : Both s c → (head_of s).processes ≤ length lent → ((d : List ℕ) → ¬ Satisfies (run_in s) (clauses_in c (head_of s)) d) → lent' ≡ lent → Answered s c lent lent' (Ok O.None)
+  none : Both s c → (head_of s).processes ≤ length lent → ((d : List ℕ) → ¬ Satisfies (run_in s) (clauses_in c (head_of s)) d) → lent' ≡ lent → Answered s c lent lent' (Ok O.NoCut)
   found : Both s c → (head_of s).processes ≤ length lent → (cut : List ℕ) → First (run_in s) (clauses_in c (head_of s)) cut → Wrote cut lent lent'
       → Answered s c lent lent' (Ok O.Found)
 

@@ -77,7 +77,7 @@ module _ {s c lent lent' : List ℕ} where
   refusal_changes_nothing w = only_found_writes w (λ e. never (cc))
 
   -- nor does none.
-  pub none_changes_nothing : Answered s c lent lent' (Ok O.None) → lent' ≡ lent
+  pub none_changes_nothing : Answered s c lent lent' (Ok O.NoCut) → lent' ≡ lent
   none_changes_nothing w = only_found_writes w (λ e. never (cc))
 
 -- ---- demand 2
@@ -133,10 +133,10 @@ module _ {s c lent lent' : List ℕ} where
 
   -- "None exactly if no such cut exists."
   pub none_exactly : Both s c → (head_of s).processes ≤ length lent → {a : Result Outcome Refusal} → Answered s c lent lent' a
-      → (a ≡ Ok O.None) ↔ ((d : List ℕ) → ¬ Satisfies (run_in s) (clauses_for s c) d)
+      → (a ≡ Ok O.NoCut) ↔ ((d : List ℕ) → ¬ Satisfies (run_in s) (clauses_for s c) d)
   none_exactly v h w = (no_cut w, λ n. (answered_one w (none v h n refl)).0)
     where
-      no_cut : {a : Result Outcome Refusal} → Answered s c lent lent' a → a ≡ Ok O.None → (d : List ℕ) → ¬ Satisfies (run_in s) (clauses_for s c) d
+      no_cut : {a : Result Outcome Refusal} → Answered s c lent lent' a → a ≡ Ok O.NoCut → (d : List ℕ) → ¬ Satisfies (run_in s) (clauses_for s c) d
       no_cut (run_refused y v k) e = never (cc)
       no_cut (cond_refused y v r k) e = never (cc)
       no_cut (few v h k) e = never (cc)

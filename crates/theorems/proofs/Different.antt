@@ -37,7 +37,7 @@ pub record SameChannels (counts : List ℕ) (stamps : List ℤ) (counts' : List 
 -- the rows are those of a found cut
 pub data SameAnswer (cut counts : List ℕ) (stamps : List ℤ) (cut' counts' : List ℕ) (stamps' : List ℤ) : Result Outcome Refusal → Result Outcome Refusal → Type 0 where
   found : cut ≡ cut' → SameChannels counts stamps counts' stamps' → SameAnswer cut counts stamps cut' counts' stamps' (Ok O.Found) (Ok O.Found)
-  none : SameAnswer cut counts stamps cut' counts' stamps' (Ok O.None) (Ok O.None)
+  none : SameAnswer cut counts stamps cut' counts' stamps' (Ok O.NoCut) (Ok O.NoCut)
   refused : {x y : Refusal} → SameRefusal x y → SameAnswer cut counts stamps cut' counts' stamps' (Err x) (Err y)
 
 pub data SameVerdict : Result Bool Refusal → Result Bool Refusal → Type 0 where
@@ -147,13 +147,13 @@ module _ (cut counts : List ℕ) (stamps : List ℤ) (cut' counts' : List ℕ) (
       → SameAnswer cut counts stamps cut' counts' stamps' a b
   unfolding answer_lines found_lines bytes
   answers_differ (Ok O.Found) (Ok O.Found) e = let (cuts, channels) = found_same cut counts stamps cut' counts' stamps' e in found cuts channels
-  answers_differ (Ok O.Found) (Ok O.None) e = absurd (differ 0 (λ z. omega arith) e)
+  answers_differ (Ok O.Found) (Ok O.NoCut) e = absurd (differ 0 (λ z. omega arith) e)
   answers_differ (Ok O.Found) (Err y) e = absurd (no_refusal y (λ z. omega arith) e)
-  answers_differ (Ok O.None) (Ok O.Found) e = absurd (differ 0 (λ z. omega arith) e)
-  answers_differ (Ok O.None) (Ok O.None) e = none
-  answers_differ (Ok O.None) (Err y) e = absurd (no_refusal y (λ z. omega arith) e)
+  answers_differ (Ok O.NoCut) (Ok O.Found) e = absurd (differ 0 (λ z. omega arith) e)
+  answers_differ (Ok O.NoCut) (Ok O.NoCut) e = none
+  answers_differ (Ok O.NoCut) (Err y) e = absurd (no_refusal y (λ z. omega arith) e)
   answers_differ (Err x) (Ok O.Found) e = absurd (no_refusal x (λ z. omega arith) (sym e))
-  answers_differ (Err x) (Ok O.None) e = absurd (no_refusal x (λ z. omega arith) (sym e))
+  answers_differ (Err x) (Ok O.NoCut) e = absurd (no_refusal x (λ z. omega arith) (sym e))
   answers_differ (Err x) (Err y) e = refused (refused_same x y e)
 
 pub verdicts_differ : (a b : Result Bool Refusal) → verdict_lines a ≡ verdict_lines b → SameVerdict a b

@@ -31,7 +31,7 @@ SmallRefusal x = (x.number < 65536) × (x.place < 2 ^ 64)
 
 abbrev pub SmallAnswer : Result Outcome Refusal → List ℕ → List ℕ → List ℤ → Type 0
 SmallAnswer (Ok O.Found) cut counts stamps = (length cut ≤ 8) × (length counts ≤ 16) × SmallRow cut × SmallRow counts × SmallStamps stamps
-SmallAnswer (Ok O.None) cut counts stamps = Unit {0}
+SmallAnswer (Ok O.NoCut) cut counts stamps = Unit {0}
 SmallAnswer (Err x) cut counts stamps = SmallRefusal x
 
 abbrev pub SmallVerdict : Result Bool Refusal → Type 0
@@ -68,7 +68,7 @@ found_short cut counts stamps h g small small' fits =
 pub answers_short : (a : Result Outcome Refusal) (cut counts : List ℕ) (stamps : List ℤ) → SmallAnswer a cut counts stamps → length (answer_lines a cut counts stamps) ≤ 1024
 unfolding answer_lines bytes
 answers_short (Ok O.Found) cut counts stamps (h, g, small, small', fits) = found_short cut counts stamps h g small small' fits
-answers_short (Ok O.None) cut counts stamps _ = omega arith
+answers_short (Ok O.NoCut) cut counts stamps _ = omega arith
 answers_short (Err x) cut counts stamps held = refused_short x held
 
 pub verdicts_short : (a : Result Bool Refusal) → SmallVerdict a → length (verdict_lines a) ≤ 1024

@@ -102,7 +102,7 @@ pub data Case : Type 0 where
 abbrev pub Says : Case → Type 0
 Says (cut d a) = AskedConsistent (desks 1) d a
 Says (search c (Some d)) = (lent lent' : List ℕ) → 2 ≤ length lent → Wrote d lent lent' → Answered (desks 1) c lent lent' (Ok O.Found)
-Says (search c None) = (lent : List ℕ) → 2 ≤ length lent → Answered (desks 1) c lent lent (Ok O.None)
+Says (search c None) = (lent : List ℕ) → 2 ≤ length lent → Answered (desks 1) c lent lent (Ok O.NoCut)
 Says (messages d h a) = AskedMessages (desks 1) d h a
 Says (refused n place) = (c lent : List ℕ) → Answered (desks 2) c lent lent (Err (refusal F.Run n place))
 
@@ -320,7 +320,7 @@ marked =
 abbrev pub Only : Case → Type 0
 Only (cut d a) = (b : Result Bool Refusal) → AskedConsistent (desks 1) d b → b ≡ a
 Only (search c (Some d)) = (lent lent' : List ℕ) (a : Result Outcome Refusal) → 2 ≤ length lent → length d ≤ length lent → Answered (desks 1) c lent lent' a → (a ≡ Ok O.Found) × Wrote d lent lent'
-Only (search c None) = (lent lent' : List ℕ) (a : Result Outcome Refusal) → 2 ≤ length lent → Answered (desks 1) c lent lent' a → (a ≡ Ok O.None) × (lent' ≡ lent)
+Only (search c None) = (lent lent' : List ℕ) (a : Result Outcome Refusal) → 2 ≤ length lent → Answered (desks 1) c lent lent' a → (a ≡ Ok O.NoCut) × (lent' ≡ lent)
 Only (messages d h a) = (b : Result (Option Load) Refusal) → AskedMessages (desks 1) d h b → b ≡ a
 Only (refused n place) = (c lent lent' : List ℕ) (a : Result Outcome Refusal) → Answered (desks 2) c lent lent' a → (a ≡ Err (refusal F.Run n place)) × (lent' ≡ lent)
 

@@ -29,4 +29,4 @@ load_on-requires c =
 pub returns : goal.returns
 returns c =
     let r = c.requires in
-    rw c.counted.ensures (load_answers r.accepted (c.in_ok-given_cut.ensures _ r) (omega (arith, c.if-head-channel.false, ap (λ h. h.channels) r.head)) c.load_on.ensures.0)
+    load_answers r.accepted (c.in_ok-given_cut.ensures _ r) (omega (arith, c.if-head-channel.false, ap (λ h. h.channels) r.head)) c.load_on.ensures.0
