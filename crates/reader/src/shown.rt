@@ -59,12 +59,8 @@ pub fn refused_part<'a>(run: &'a [u8], cond: &'a [u8], refusal: Refusal) -> Part
     let file = refusal.file;
     let bytes = bytes_of(run, cond, file);
     let count = count_of(bytes, refusal.place, refusal.after);
-    let left = left_from(bytes, refusal.place);
-    Part {
-        file,
-        place: bytes.len() - left,
-        count,
-    }
+    let place = refusal.place.min(bytes.len());
+    Part { file, place, count }
 }
 
 // That part itself, of one of two lent slices.
