@@ -3,6 +3,7 @@ use Rattle.std.specs.Prelude.{Bool, true, false, List, [], ◌∷◌, ◌++◌, 
 use Rattle.record.specs.declared.File.{File}
 use Rattle.record.specs.declared.File.TheVariants.{Run, Condition}
 use Rattle.record.specs.declared.Refusal.{Refusal}
+use Rattle.record.specs.Refusal.{number}
 use Rattle.search.specs.declared.Outcome.{Outcome}
 use Rattle.search.specs.declared.Outcome.TheVariants as O
 use Rattle.transit.specs.declared.Load.{Load}
@@ -13,7 +14,7 @@ refused_word Run = bytes "refused run"
 refused_word Condition = bytes "refused cond"
 
 unfoldable pub refused_line : Refusal → List ℕ
-refused_line x = pair_line (refused_word x.file) x.number x.place
+refused_line x = pair_line (refused_word x.file) (number x.reason) x.place
 
 -- an empty channel has no stamp
 unfoldable pub stamp_word : ℕ → ℤ → List ℕ
