@@ -10,9 +10,9 @@ ghost use Rattle.answers.specs.Lines.{answer_lines, count_lines, found_lines, re
 ghost use Rattle.answers.specs.Made.{MadeOf};
 
 use channels::{channel_lines, count_line};
-use transit::Load;
 use record::{File, Refusal};
 use search::Outcome;
+use transit::Load;
 use writing::{pair_line, row_lines, text};
 
 #[tactic(auto, unfolding(crate::specs::Lines::refused_line, crate::specs::Lines::refused_word, writing::specs::Text::bytes))]

@@ -7,7 +7,10 @@ use std::io;
 use transit::Load;
 
 // The lines that are made, in one write. 1,024 bytes are always enough (`theorems/proofs/Enough.antt`).
-fn print_made<Make: FnOnce(&mut [u8]) -> Option<usize>>(rt: &impl Print, make: Make) -> io::Result<()>
+fn print_made<Make: FnOnce(&mut [u8]) -> Option<usize>>(
+    rt: &impl Print,
+    make: Make,
+) -> io::Result<()>
     requires { Make.IsAlwaysCallable make }
 {
     let mut lines = [0u8; 1024];

@@ -1,6 +1,6 @@
 -- What the paper says of cuts, clocks and messages, of an accepted run and by the numbers of its own bytes. Above each theorem stands the sentence that it is.
 use mathlib.Core.Path.{◌≡◌, refl, sym, ap, ◌∙◌, subst}
-use mathlib.Core.Logic.{inr, ◌↔◌}
+use mathlib.Core.Logic.{◌↔◌}
 use mathlib.Core.Bool.{true, false}
 use mathlib.Core.List.{List, [], ◌∷◌}
 use Prim.Native.Nat.{ℕ, ◌+◌, ◌≤◌}
@@ -29,8 +29,9 @@ use Rattle.judged.specs.Accepted.{RunAccepted}
 use Rattle.judged.proofs.Acceptance.{accepted_known}
 use Rattle.condition.specs.declared.Item.{Item}
 use Rattle.condition.specs.Items.{step_at}
-use Rattle.condition.specs.Judge.{judge_no}
-use Rattle.condition.specs.Read.{given, is_end, condition_pass, read_of}
+use Rattle.record.specs.Refusal.{passed}
+use Rattle.condition.specs.Judge.{check_item}
+use Rattle.condition.specs.Read.{is_end, condition_pass, read_of}
 use Rattle.condition.specs.Accepted.{ConditionAccepted}
 use Rattle.condition.specs.Known.{clauses_for}
 use Rattle.condition.proofs.Accepted.{clauses-in, clauses_length}
@@ -90,7 +91,7 @@ record Counted (c : List ℕ) (at : ℕ) (k : ℕ × List ℕ) : Type 0 where
   behind : (at ≡ 0 → ⊥) → k.0 + length k.1 ≡ clause_count c
 
 module _ (c : List ℕ) (h : Head) where
-  counted_next : (at next : ℕ) (k : ℕ × List ℕ) (r : Item) → Counted c at k → given (step_at c at k.0) ≡ inr (r, next) → judge_no h r ≡ 0 → is_end r ≡ false
+  counted_next : (at next : ℕ) (k : ℕ × List ℕ) (r : Item) → Counted c at k → step_at c at k.0 ≡ Ok (r, next) → check_item h r ≡ passed → is_end r ≡ false
       → Counted c next ((condition_pass c h).more r at k)
   counted_next at next k r w g n =
       let d = item_stepped c at k.0 next r g in
@@ -101,7 +102,7 @@ module _ (c : List ℕ) (h : Head) where
       (λ z y m e. never (cc))
       (λ z y m e. record { front = λ x. absurd (past x); behind = λ x. omega (arith, w.behind z, length-append k.1 (at ∷ []), y) }))
 
-  counted_end : (at next : ℕ) (k : ℕ × List ℕ) (r : Item) → Counted c at k → given (step_at c at k.0) ≡ inr (r, next) → judge_no h r ≡ 0 → is_end r ≡ true
+  counted_end : (at next : ℕ) (k : ℕ × List ℕ) (r : Item) → Counted c at k → step_at c at k.0 ≡ Ok (r, next) → check_item h r ≡ passed → is_end r ≡ true
       → length c ≤ next → length k.1 ≡ clause_count c
   counted_end at next k r w g n =
       let d = item_stepped c at k.0 next r g in

@@ -1,10 +1,13 @@
--- Which numbers the chains of tests give: 0, or one of those that they name. P is whatever 0 and these have in common.
+-- Why the chains of tests refuse: for one of the reasons that they name. P is whatever these have in common.
 use mathlib.Core.Bool.{Bool, true, false, cond}
 use mathlib.Core.List.{List}
 use Prim.Native.Nat.{ℕ}
 use lib.Dec.{eqb}
-use Rattle.record.specs.Refusal.{or_if, or_else}
-use Rattle.record.specs.Record.{head_of, frame_no, opening_no, step_no}
+use Rattle.std.proofs.Common.{Err}
+use Rattle.record.specs.Refusal.{Check, passed, refuse_if, ◌then◌}
+use Rattle.record.specs.declared.reasons.Reason.{Reason}
+use Rattle.record.specs.declared.reasons.Reason.TheVariants.{CutShort, WrongLength, WrongKind, Limit, Format, Name, Field, Start, Side, NotLinear}
+use Rattle.record.specs.Record.{head_of, check_frame, check_opening, check_step}
 use Rattle.record.specs.declared.Head.{Head}
 use Rattle.record.specs.declared.ChannelFields.{ChannelFields}
 use Rattle.record.specs.declared.StateFields.{StateFields}
@@ -19,90 +22,96 @@ use Rattle.condition.specs.declared.Item.TheVariants as I
 use Rattle.condition.specs.Items as E
 use Rattle.condition.specs.Judge as K
 
-module _ (P : ℕ → Type 0) (none : P 0) where
-  if : (t : Bool) {m n : ℕ} → P m → P n → P (cond t m n)
+-- if the tests refuse, then for such a reason
+pub data Only (P : Reason → Type 0) : Check → Type 0 where
+  nothing : Only P passed
+  because : {r : Reason} → P r → Only P (Err r)
+
+module _ (P : Reason → Type 0) where
+  pub refuse : (t : Bool) {r : Reason} → P r → Only P (refuse_if t r)
+  unfolding refuse_if
+  refuse true p = because p
+  refuse false p = nothing
+
+  then-only : {a b : Check} → Only P a → Only P b → Only P (a then b)
+  then-only nothing q = q
+  then-only (because p) q = because p
+
+  if : (t : Bool) {a b : Check} → Only P a → Only P b → Only P (cond t a b)
   if true p q = p
   if false p q = q
 
-  or-if : {r n : ℕ} (t : Bool) → P r → P n → P (or_if r t n)
-  unfolding or_if
-  or-if {r} t p q = if (eqb r 0) (if t q none) p
-
-  or-else : {r n : ℕ} → P r → P n → P (or_else r n)
-  unfolding or_else
-  or-else {r} p q = if (eqb r 0) q p
-
   -- ---- a step
 
-  frame : (s : List ℕ) (at : ℕ) → P 2 → P 3 → P (frame_no s at)
-  unfolding frame_no
-  frame s at two three = or-if _ (or-if _ (or-if _ none two) three) two
+  frame : (s : List ℕ) (at : ℕ) → P CutShort → P WrongLength → Only P (check_frame s at)
+  unfolding check_frame
+  frame s at short long = then-only (refuse _ short) (then-only (refuse _ long) (refuse _ short))
 
-  opening : (s : List ℕ) (at : ℕ) → P 2 → P 3 → P 4 → P (opening_no s at)
-  unfolding opening_no
-  opening s at two three four = or-if _ (or-if _ (frame s at two three) four) three
+  opening : (s : List ℕ) (at : ℕ) → P CutShort → P WrongLength → P WrongKind → Only P (check_opening s at)
+  unfolding check_opening
+  opening s at short long kind = then-only (frame s at short long) (then-only (refuse _ kind) (refuse _ long))
 
-  pub step : (s : List ℕ) (at : ℕ) → P 2 → P 3 → P 4 → P 6 → P (step_no s at)
-  unfolding step_no
-  step s at two three four six = or-if _ (opening s at two three four) six
+  pub step : (s : List ℕ) (at : ℕ) → P CutShort → P WrongLength → P WrongKind → P Format → Only P (check_step s at)
+  unfolding check_step
+  step s at short long kind format = then-only (opening s at short long kind) (refuse _ format)
 
-  pub condition_step : (c : List ℕ) (at owed : ℕ) → P 2 → P 3 → P 4 → P (E.step_no c at owed)
-  unfolding E.step_no
-  condition_step c at owed two three four = or-if _ (or-if _ (frame c at two three) four) three
+  pub condition_step : (c : List ℕ) (at owed : ℕ) → P CutShort → P WrongLength → P WrongKind → Only P (E.check_step c at owed)
+  unfolding E.check_step
+  condition_step c at owed short long kind = then-only (frame c at short long) (then-only (refuse _ kind) (refuse _ long))
 
   -- ---- a record of a run
 
-  head : (h : Head) → P 5 → P (J.head_no h)
-  unfolding J.head_no
-  head h five = or-if _ (or-if _ (or-if _ none five) five) five
+  head : (h : Head) → P Limit → Only P (J.check_head h)
+  unfolding J.check_head
+  head h limit = then-only (refuse _ limit) (then-only (refuse _ limit) (refuse _ limit))
 
-  channel : (n at : ℕ) (l : ChannelFields) → P 7 → P (J.channel_no n at l)
-  unfolding J.channel_no
-  channel n at l seven = or-if _ (or-if _ (or-if _ (or-if _ none seven) seven) seven) seven
+  channel : (n at : ℕ) (l : ChannelFields) → P Name → Only P (J.check_channel n at l)
+  unfolding J.check_channel
+  channel n at l name = then-only (refuse _ name) (then-only (refuse _ name) (then-only (refuse _ name) (refuse _ name)))
 
-  name : (h : Head) (f : StateFields) → P 7 → P (J.name_no h f)
-  unfolding J.name_no
-  name h f seven = or-if _ (or-if _ (or-if _ none seven) seven) seven
+  names : (h : Head) (f : StateFields) → P Name → Only P (J.check_names h f)
+  unfolding J.check_names
+  names h f name = then-only (refuse _ name) (then-only (refuse _ name) (refuse _ name))
 
-  field : (f : StateFields) → P 8 → P (J.field_no f)
-  unfolding J.field_no
-  field f eight = or-if _ (or-if _ (or-if _ (or-if _ none eight) eight) eight) eight
+  fields : (f : StateFields) → P Field → Only P (J.check_fields f)
+  unfolding J.check_fields
+  fields f field = then-only (refuse _ field) (then-only (refuse _ field) (then-only (refuse _ field) (refuse _ field)))
 
-  start : (f : StateFields) (count : ℕ) → P 9 → P (J.start_no f count)
-  unfolding J.start_no
-  start f count nine = or-if _ (or-if _ none nine) nine
+  starts : (f : StateFields) (count : ℕ) → P Start → Only P (J.check_start f count)
+  unfolding J.check_start
+  starts f count start = then-only (refuse _ start) (refuse _ start)
 
-  side : (s : List ℕ) (f : StateFields) → P 10 → P (J.side_no s f)
-  unfolding J.side_no
-  side s f ten = if (eqb f.event 2) (or-if _ none ten) (if (eqb f.event 3) (or-if _ none ten) none)
+  sides : (s : List ℕ) (f : StateFields) → P Side → Only P (J.check_side s f)
+  unfolding J.check_side
+  sides s f side = if (eqb f.event 2) (refuse _ side) (if (eqb f.event 3) (refuse _ side) nothing)
 
-  state : (s counts : List ℕ) (f : StateFields) → P 5 → P 7 → P 8 → P 9 → P 10 → P (J.state_no s counts f)
-  unfolding J.state_no
-  state s counts f five seven eight nine ten =
-      or-else (or-else (or-else (or-if _ (name (head_of s) f seven) five) (field f eight)) (start f _ nine)) (side s f ten)
+  state : (s counts : List ℕ) (f : StateFields) → P Limit → P Name → P Field → P Start → P Side → Only P (J.check_state s counts f)
+  unfolding J.check_state
+  state s counts f limit name field start side =
+      then-only (names (head_of s) f name) (then-only (refuse _ limit) (then-only (fields f field) (then-only (starts f _ start) (sides s f side))))
 
-  pub record_judged : (s counts : List ℕ) (at : ℕ) (r : Record) → P 5 → P 7 → P 8 → P 9 → P 10 → P (J.judge_no s counts at r)
-  record_judged s counts at (R.Head h) five seven eight nine ten = head h five
-  record_judged s counts at (R.Channel l) five seven eight nine ten = channel (head_of s).processes at l seven
-  record_judged s counts at (R.State f) five seven eight nine ten = state s counts f five seven eight nine ten
-  record_judged s counts at R.End five seven eight nine ten = or-if _ none nine
+  pub record_judged : (s counts : List ℕ) (at : ℕ) (r : Record) → P Limit → P Name → P Field → P Start → P Side → Only P (J.check_record s counts at r)
+  record_judged s counts at (R.Head h) limit name field start side = head h limit
+  record_judged s counts at (R.Channel l) limit name field start side = channel (head_of s).processes at l name
+  record_judged s counts at (R.State f) limit name field start side = state s counts f limit name field start side
+  record_judged s counts at R.End limit name field start side = refuse _ start
 
   -- ---- a record of a condition
 
-  clauses : (n : ℕ) → P 5 → P (K.head_no n)
-  unfolding K.head_no
-  clauses n five = or-if _ none five
+  clauses : (n : ℕ) → P Limit → Only P (K.check_head n)
+  unfolding K.check_head
+  clauses n limit = refuse _ limit
 
-  local : (h : Head) (l : Local) → P 7 → P 8 → P (K.local_no h l)
-  unfolding K.local_no
-  local h l seven eight = or-if _ (or-if _ (or-if _ (or-if _ none seven) seven) eight) eight
+  local : (h : Head) (l : Local) → P Name → P Field → Only P (K.check_local h l)
+  unfolding K.check_local
+  local h l name field = then-only (refuse _ name) (then-only (refuse _ name) (then-only (refuse _ field) (refuse _ field)))
 
-  test : (h : Head) (t : Test) → P 7 → P 8 → P 14 → P (K.test_no h t)
-  unfolding K.test_no
-  test h t seven eight fourteen = or-if _ (or-if _ (or-if _ (or-if _ none seven) eight) eight) fourteen
+  test : (h : Head) (t : Test) → P Name → P Field → P NotLinear → Only P (K.check_test h t)
+  unfolding K.check_test
+  test h t name field not_linear = then-only (refuse _ name) (then-only (refuse _ field) (then-only (refuse _ field) (refuse _ not_linear)))
 
-  pub item_judged : (h : Head) (r : Item) → P 5 → P 7 → P 8 → P 14 → P (K.judge_no h r)
-  item_judged h (I.Head n) five seven eight fourteen = clauses n five
-  item_judged h (I.Clause (C.Local l)) five seven eight fourteen = local h l seven eight
-  item_judged h (I.Clause (C.Channel t)) five seven eight fourteen = test h t seven eight fourteen
-  item_judged h I.End five seven eight fourteen = none
+  pub item_judged : (h : Head) (r : Item) → P Limit → P Name → P Field → P NotLinear → Only P (K.check_item h r)
+  item_judged h (I.Head n) limit name field not_linear = clauses n limit
+  item_judged h (I.Clause (C.Local l)) limit name field not_linear = local h l name field
+  item_judged h (I.Clause (C.Channel t)) limit name field not_linear = test h t name field not_linear
+  item_judged h I.End limit name field not_linear = nothing

@@ -19,8 +19,8 @@ use Rattle.model.specs.Linear.{Linear}
 use Rattle.model.proofs.Decide.{has_first}
 use Rattle.model.proofs.Past.{nothing_past}
 use Rattle.model.proofs.Lattice.{fewer_clauses, no_earlier}
-use Rattle.record.specs.Refusal.{or_if, number, refusal}
-use Rattle.record.specs.declared.reasons.Reason.TheVariants.{NoRoom}
+use Rattle.record.specs.Refusal.{refuse_if, refusal}
+use Rattle.record.specs.declared.reasons.Reason.TheVariants.{NoRoom, NotLinear}
 use Rattle.record.specs.Record.{head_of}
 use Rattle.record.specs.declared.File.TheVariants.{Run}
 use Rattle.record.specs.declared.Head.{Head}
@@ -31,7 +31,7 @@ use Rattle.judged.specs.Judged.{Judged}
 use Rattle.record.specs.Pass.{places_in}
 use Rattle.condition.specs.Read.{read_of, clauses_in}
 use Rattle.condition.specs.Clauses.{test_of}
-use Rattle.condition.specs.Judge.{test_no}
+use Rattle.condition.specs.Judge.{check_test}
 use Rattle.condition.specs.declared.Test.{Test}
 use Rattle.condition.proofs.Accepted.{condition_linear}
 use Rattle.search.specs.declared.Outcome.{Outcome}
@@ -88,13 +88,13 @@ known v = accepted_known v refl
 pub size : {s : List ℕ} → RunAccepted s → processes (run_in s) ≡ (head_of s).processes
 size {s} v = processes_are s (accepted_read v refl)
 
--- "A non-linear condition is refused": none is accepted, and 14 is the number of a clause with test 8 or 9 whose channel exists
+-- "A non-linear condition is refused": none is accepted, and 14 is given to a clause with test 8 or 9 whose channel exists
 pub linear : {s c : List ℕ} → Both s c → Linear (clauses_for s c)
 unfolding clauses_in
 linear {s} {c} v = condition_linear c (head_of s) (places_in (read_of c (head_of s))) v.cond
 
-pub not_linear_refused : (h : Head) (t : Test) → t.channel < h.channels → (t.test ≡ 8) ⊎ (t.test ≡ 9) → test_no h t ≡ 14
-unfolding test_no test_of or_if
+pub not_linear_refused : (h : Head) (t : Test) → t.channel < h.channels → (t.test ≡ 8) ⊎ (t.test ≡ 9) → check_test h t ≡ Err NotLinear
+unfolding check_test test_of refuse_if
 not_linear_refused h t l (inl e) = rw (e, lt-leb h.channels t.channel l) refl
 not_linear_refused h t l (inr e) = rw (e, lt-leb h.channels t.channel l) refl
 

@@ -13,7 +13,8 @@ use Rattle.record.specs.declared.Refusal.{Refusal}
 use Rattle.search.specs.declared.Outcome.{Outcome}
 use Rattle.search.specs.declared.Outcome.TheVariants as O
 use Rattle.transit.specs.declared.Load.{Load}
-use Rattle.record.specs.Refusal.{refusal}
+use Rattle.record.specs.Refusal.{number, refusal}
+use Rattle.record.specs.declared.reasons.Reason.TheVariants.{NotLinear}
 use Rattle.writing.specs.Text.{bytes, digits, decimal, signed, spaced, pair_line, row_lines}
 use Rattle.answers.specs.Lines.{refused_word, refused_line, stamp_word, channel_line, channel_lines, found_lines, answer_lines, verdict_lines, count_line, count_lines}
 use Rattle.answers.proofs.ChannelLines.{channel_line_same, count_line_same}
@@ -25,7 +26,7 @@ use Rattle.writing.proofs.Reading.{pair_line_same, rows_same}
 -- whether the record stands after the end isn't printed
 pub record SameRefusal (x y : Refusal) : Type 0 where
   pub file : x.file ≡ y.file
-  pub number : x.number ≡ y.number
+  pub number : number x.reason ≡ number y.reason
   pub place : x.place ≡ y.place
 
 -- A channel is printed if both rows have its place, and so the whole rows where they are of the same length (`whole_rows`). What stands at an empty channel in
@@ -66,16 +67,16 @@ file_same Condition Condition a b c d e = refl
 refused_same : (x y : Refusal) → refused_line x ≡ refused_line y → SameRefusal x y
 unfolding refused_line
 refused_same x y e =
-    let f = file_same x.file y.file x.number x.place y.number y.place e in
-    let line = ap (λ l. l ++ []) (e ∙ ap (λ g. pair_line (refused_word g) y.number y.place) (sym f)) in
-    let (number, place, _) = pair_line_same (refused_word x.file) x.number x.place y.number y.place [] [] line in
-    record { file = f; number = number; place = place }
+    let f = file_same x.file y.file (number x.reason) x.place (number y.reason) y.place e in
+    let line = ap (λ l. l ++ []) (e ∙ ap (λ g. pair_line (refused_word g) (number y.reason) y.place) (sym f)) in
+    let (same, place, _) = pair_line_same (refused_word x.file) (number x.reason) x.place (number y.reason) y.place [] [] line in
+    record { file = f; number = same; place = place }
 
 refused_first : (x : Refusal) → get_or (refused_line x) 0 0 ≡ 114
 unfolding refused_line pair_line refused_word bytes
 refused_first x = go x.file
   where
-    go : (f : File) → get_or (pair_line (refused_word f) x.number x.place) 0 0 ≡ 114
+    go : (f : File) → get_or (pair_line (refused_word f) (number x.reason) x.place) 0 0 ≡ 114
     go Run = refl
     go Condition = refl
 
@@ -199,7 +200,7 @@ pub lowest_channel_line : channel_line 0 1 (negsuc 2147483647) ≡ bytes "channe
 unfolding channel_line stamp_word spaced decimal digits bytes
 lowest_channel_line = rw lowest_number refl
 
-pub refused_lines : answer_lines (Err (refusal Condition 14 65530)) [] [] [] ≡ bytes "refused cond 14 65530\n"
+pub refused_lines : answer_lines (Err (refusal Condition NotLinear 65530)) [] [] [] ≡ bytes "refused cond 14 65530\n"
 unfolding answer_lines refused_line refused_word pair_line spaced decimal digits bytes
 refused_lines = refl
 

@@ -9,6 +9,7 @@ use mir.Val.{SFits}
 use Rattle.std.specs.Prelude.{Bool, true, false, Option, Some, None, Result, Ok, Err}
 use Rattle.record.specs.declared.File.{File}
 use Rattle.record.specs.declared.File.TheVariants.{Run, Condition}
+use Rattle.record.specs.Refusal.{number}
 use Rattle.record.specs.declared.Refusal.{Refusal}
 use Rattle.search.specs.declared.Outcome.{Outcome}
 use Rattle.search.specs.declared.Outcome.TheVariants as O
@@ -27,7 +28,7 @@ abbrev pub SmallStamps : List ℤ → Type 0
 SmallStamps stamps = (k : ℕ) → SFits w32 (get_or stamps k (pos 0))
 
 abbrev pub SmallRefusal : Refusal → Type 0
-SmallRefusal x = (x.number < 65536) × (x.place < 2 ^ 64)
+SmallRefusal x = (number x.reason < 65536) × (x.place < 2 ^ 64)
 
 abbrev pub SmallAnswer : Result Outcome Refusal → List ℕ → List ℕ → List ℤ → Type 0
 SmallAnswer (Ok O.Found) cut counts stamps = (length cut ≤ 8) × (length counts ≤ 16) × SmallRow cut × SmallRow counts × SmallStamps stamps
@@ -53,9 +54,9 @@ word_short Condition = omega arith
 
 refused_short : (x : Refusal) → SmallRefusal x → length (refused_line x) ≤ 1024
 unfolding refused_line
-refused_short x (number, place) =
-    let line = pair_line_long (refused_word x.file) x.number x.place in
-    omega (arith, line, word_short x.file, decimal_short 4 x.number (omega arith), decimal_short 19 x.place (omega arith))
+refused_short x (few, place) =
+    let line = pair_line_long (refused_word x.file) (number x.reason) x.place in
+    omega (arith, line, word_short x.file, decimal_short 4 (number x.reason) (omega arith), decimal_short 19 x.place (omega arith))
 
 found_short : (cut counts : List ℕ) (stamps : List ℤ) → length cut ≤ 8 → length counts ≤ 16 → SmallRow cut → SmallRow counts → SmallStamps stamps
     → length (found_lines cut counts stamps) ≤ 1024

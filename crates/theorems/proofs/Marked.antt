@@ -23,12 +23,14 @@ use Rattle.model.proofs.Order.{consistent_by_message}
 use Rattle.model.proofs.Desks as M
 use Rattle.record.specs.declared.Refusal.{Refusal}
 use Rattle.record.specs.Bytes.{u16_at, u32_at, signed}
-use Rattle.record.specs.Refusal.{or_if, or_else, refusal}
-use Rattle.record.specs.Record.{length_of, frame_no, head_of, due, opening_no, step_no, channel_fields_at, state_fields_at, record_at, step_at}
+use Rattle.record.specs.Refusal.{refuse_if, refusal}
+use Rattle.record.specs.declared.reasons.Reason.{Reason}
+use Rattle.record.specs.declared.reasons.Reason.TheVariants.{Clock}
+use Rattle.record.specs.Record.{length_of, check_frame, head_of, due, check_opening, check_step, channel_fields_at, state_fields_at, record_at, step_at}
 use Rattle.record.specs.declared.File.TheVariants as F
 use Rattle.states.specs.States.{message_of, event_of, state_at, channel_at, places_of, tabulate, run_of}
-use Rattle.states.specs.Judge.{head_no, channel_no, name_no, field_no, start_no, side_no, state_no, lacks}
-use Rattle.record.specs.Pass.{ended, read_from, read_file}
+use Rattle.states.specs.Judge.{check_head, check_channel, check_names, check_fields, check_start, check_side, check_state, lacks}
+use Rattle.record.specs.Pass.{check_length, check_end, read_from, read_file}
 use Rattle.run.specs.Read.{counts_of, read_of}
 use Rattle.run.specs.Said.{states_of, run_in, place_of, recorded_clock}
 use Rattle.judged.specs.Judged.{WrongClock, Faultless, Judged}
@@ -97,14 +99,14 @@ pub data Case : Type 0 where
   cut : List ℕ → Result Bool Refusal → Case
   search : (condition : List ℕ) → Option (List ℕ) → Case
   messages : (cut : List ℕ) (channel : ℕ) → Result (Option Load) Refusal → Case
-  refused : (number place : ℕ) → Case
+  refused : (reason : Reason) (place : ℕ) → Case
 
 abbrev pub Says : Case → Type 0
 Says (cut d a) = AskedConsistent (desks 1) d a
 Says (search c (Some d)) = (lent lent' : List ℕ) → 2 ≤ length lent → Wrote d lent lent' → Answered (desks 1) c lent lent' (Ok O.Found)
 Says (search c None) = (lent : List ℕ) → 2 ≤ length lent → Answered (desks 1) c lent lent (Ok O.NoCut)
 Says (messages d h a) = AskedMessages (desks 1) d h a
-Says (refused n place) = (c lent : List ℕ) → Answered (desks 2) c lent lent (Err (refusal F.Run n place))
+Says (refused why place) = (c lent : List ℕ) → Answered (desks 2) c lent lent (Err (refusal F.Run why place))
 
 pub table : List Case
 table =
@@ -119,14 +121,14 @@ table =
     ∷ search condition_7 (Some (1 ∷ 1 ∷ []))
     ∷ search condition_8 None
     ∷ messages (1 ∷ 2 ∷ []) 0 (Ok None)
-    ∷ refused 13 172
+    ∷ refused Clock 172
     ∷ []
 
 -- ---- the run is accepted; where x is 2 it is refused
 
 module _ (x : ℕ) where
   read_places : read_of (desks x) ≡ Ok (20 ∷ 58 ∷ 96 ∷ 134 ∷ 172 ∷ 210 ∷ [])
-  unfolding desks u16_at u32_at signed or_if or_else length_of frame_no head_of due opening_no step_no channel_fields_at state_fields_at record_at step_at message_of event_of state_at channel_at places_of tabulate head_no channel_no name_no field_no start_no side_no state_no lacks counts_of ended read_from read_file read_of
+  unfolding desks u16_at u32_at signed refuse_if length_of check_frame head_of due check_opening check_step channel_fields_at state_fields_at record_at step_at message_of event_of state_at channel_at places_of tabulate check_head check_channel check_names check_fields check_start check_side check_state lacks counts_of check_length check_end read_from read_file read_of
   read_places = refl
 
   states_are : states_of (desks x) ≡ 20 ∷ 58 ∷ 96 ∷ 134 ∷ 172 ∷ 210 ∷ []
@@ -205,7 +207,7 @@ second : IsState M.desks 1 2
 unfolding M.desks
 second = record { counted = omega arith; there = omega arith }
 
-run-refused : Judged (desks 2) (Err (refusal F.Run 13 172))
+run-refused : Judged (desks 2) (Err (refusal F.Run Clock 172))
 run-refused = by_clock 172 (read 2) (known_paired (desks 2) (read 2) (known 2)) (clear 2) (record {
   process = 1;
   state = 2;
@@ -230,7 +232,7 @@ conditions : Reads condition_2 []
     × Reads condition_6 (local 1 0 equal (pos 1) ∷ on 0 (count_at_least 1) ∷ [])
     × Reads condition_7 (on 0 (every_at_least (pos 6)) ∷ [])
     × Reads condition_8 (on 0 (some_at_most (pos 4)) ∷ [])
-unfolding desks condition_2 condition_3 condition_4 condition_5 condition_6 condition_7 condition_8 u16_at u32_at signed or_if length_of frame_no head_of E.due E.step_no E.item_at E.step_at J.head_no J.local_no J.test_no comparison_of test_of local_at test_at held_at clauses_of ended read_from read_file D.read_of D.clauses_in
+unfolding desks condition_2 condition_3 condition_4 condition_5 condition_6 condition_7 condition_8 u16_at u32_at signed refuse_if length_of check_frame head_of E.due E.check_step E.item_at E.step_at J.check_head J.check_local J.check_test comparison_of test_of local_at test_at held_at clauses_of check_length check_end read_from read_file D.read_of D.clauses_in
 conditions = ((refl, refl), (refl, refl), (refl, refl), (refl, refl), (refl, refl), (refl, refl), (refl, refl))
 
 -- ---- each kind of case from the model's
@@ -322,7 +324,7 @@ Only (cut d a) = (b : Result Bool Refusal) → AskedConsistent (desks 1) d b →
 Only (search c (Some d)) = (lent lent' : List ℕ) (a : Result Outcome Refusal) → 2 ≤ length lent → length d ≤ length lent → Answered (desks 1) c lent lent' a → (a ≡ Ok O.Found) × Wrote d lent lent'
 Only (search c None) = (lent lent' : List ℕ) (a : Result Outcome Refusal) → 2 ≤ length lent → Answered (desks 1) c lent lent' a → (a ≡ Ok O.NoCut) × (lent' ≡ lent)
 Only (messages d h a) = (b : Result (Option Load) Refusal) → AskedMessages (desks 1) d h b → b ≡ a
-Only (refused n place) = (c lent lent' : List ℕ) (a : Result Outcome Refusal) → Answered (desks 2) c lent lent' a → (a ≡ Err (refusal F.Run n place)) × (lent' ≡ lent)
+Only (refused why place) = (c lent lent' : List ℕ) (a : Result Outcome Refusal) → Answered (desks 2) c lent lent' a → (a ≡ Err (refusal F.Run why place)) × (lent' ≡ lent)
 
 only : (k : Case) → Says k → Only k
 only (cut d a) w = λ b v. consistent_one v w
@@ -332,7 +334,7 @@ only (search c (Some d)) w = λ lent lent' a h l v.
     (o.0, subst (Wrote d lent) (sym o.1) x)
 only (search c None) w = λ lent lent' a h v. answered_one v (w lent h)
 only (messages d h a) w = λ b v. messages_one v w
-only (refused n place) w = λ c lent lent' a v. answered_one v (w c lent)
+only (refused why place) w = λ c lent lent' a v. answered_one v (w c lent)
 
 pub marked_only : (k : Case) → Memᴰ k table → Only k
 marked_only k m = only k (marked k m)

@@ -15,11 +15,10 @@ use Rattle.record.specs.Record.{kind_at, head_of, state_fields_at, step_at}
 use Rattle.record.specs.declared.Head.{Head}
 use Rattle.record.specs.declared.Record.{Record}
 use Rattle.record.specs.declared.StateFields.{StateFields}
-use Rattle.record.specs.declared.Step.TheVariants as S
+use Rattle.std.proofs.Common.{Ok}
 use Rattle.record.proofs.Laws.{by_place}
 use Rattle.states.specs.States.{message_of, event_of}
 use Rattle.states.proofs.Laws.{FieldsOk}
-use Rattle.run.specs.Read as R
 use Rattle.run.specs.Said.{run_in, place_of}
 use Rattle.run.proofs.Accepted.{record_stepped}
 use Rattle.run.proofs.Listed.{event_is, fields_are}
@@ -28,10 +27,8 @@ use Rattle.judged.proofs.Acceptance.{accepted_read}
 use Rattle.condition.specs.declared.Clause as H
 use Rattle.condition.specs.declared.Clause.TheVariants as L
 use Rattle.condition.specs.declared.Item.{Item}
-use Rattle.condition.specs.declared.ConditionStep.TheVariants as C
 use Rattle.condition.specs.Clauses.{comparison_of, test_of, clause_of, local_at, test_at, held_at}
 use Rattle.condition.specs.Items as E
-use Rattle.condition.specs.Read as D
 use Rattle.condition.specs.Accepted.{ConditionAccepted}
 use Rattle.condition.specs.Known.{ClauseKnown, clauses_for}
 use Rattle.condition.proofs.Accepted.{condition_known, clauses-in, clauses_at}
@@ -73,17 +70,17 @@ event_again {s} v p k t =
 -- ---- kinds of records
 
 -- a record that the step gives has the kind that stands there: of a run
-pub record-kind : (s : List ℕ) (at next : ℕ) (r : Record) → step_at s at ≡ S.Got r next → record_kind r ≡ kind_at s at
+pub record-kind : (s : List ℕ) (at next : ℕ) (r : Record) → step_at s at ≡ Ok (r, next) → record_kind r ≡ kind_at s at
 record-kind s at next r g =
-    let d = record_stepped s at next r (ap R.given g) in
+    let d = record_stepped s at next r g in
     let Kind : Record → Type 0 = λ r. record_kind r ≡ kind_at s at in
     subst Kind (sym d.item) (by_place s at Kind d.opening (λ z k. sym k) (λ l z k. sym k) (λ l z k. sym k) (λ l z k. sym k))
 
 -- and of a condition
-pub item-kind : (c : List ℕ) (at owed next : ℕ) (r : Item) → E.step_at c at owed ≡ C.Got r next → item_kind r ≡ kind_at c at
+pub item-kind : (c : List ℕ) (at owed next : ℕ) (r : Item) → E.step_at c at owed ≡ Ok (r, next) → item_kind r ≡ kind_at c at
 unfolding held_at
 item-kind c at owed next r g =
-    let d = K.item_stepped c at owed next r (ap D.given g) in
+    let d = K.item_stepped c at owed next r g in
     let Kind : Item → Type 0 = λ r. item_kind r ≡ kind_at c at in
     subst Kind (sym d.item) (K.by_place c at owed d.opening Kind (λ z k. sym k) (λ z y k. sym k) (λ z y k. ⊎_elim (λ e. rw e refl) (λ e. rw e refl) k))
 

@@ -4,10 +4,11 @@ use mathlib.Core.List.{List, [], ◌∷◌, Memᴰ}
 use Rattle.record.specs.declared.File.{File}
 use Rattle.record.specs.declared.File.TheVariants.{Run, Condition}
 use Rattle.record.specs.declared.Refusal.{Refusal}
+use Rattle.record.specs.Refusal.{number}
 
 -- a refusal that says this file and has one of these numbers
 pub record RefusalOf (f : File) (numbers : List ℕ) (x : Refusal) : Type 0 where
-  pub number : Memᴰ x.number numbers
+  pub number : Memᴰ (number x.reason) numbers
   pub file : x.file ≡ f
 
 abbrev pub run_numbers : List ℕ
