@@ -5,7 +5,6 @@ use Rattle.model.specs.Cut.{IsCut, in_transit}
 use Rattle.record.specs.Record.{head_of}
 use Rattle.run.specs.Said.{run_in}
 use Rattle.judged.specs.Accepted.{RunAccepted}
-use mathlib.Core.Path.{◌≡◌}
 use Rattle.std.specs.Prelude.{Option}
 use Rattle.transit.specs.declared.Load.{Load}
 use Rattle.transit.specs.Load.{LoadOf}
