@@ -34,7 +34,7 @@ some_add f (some m) ms = go (f m)
     go true = refl
     go false = refl
 
-or_false : (t : Bool) → (t || false) ≡ t
+pub or_false : (t : Bool) → (t || false) ≡ t
 or_false true = refl
 or_false false = refl
 

@@ -30,13 +30,3 @@ same_self x = go (le_z x x) (≤ℤ_refl x).le
 
 pub same_int : (x y : ℤ) → int_eq x y ≡ same_z x y
 same_int x y = same_from_decides _ _ (Decides-int_eq x y) (same_both x y (le_z x y) (le_z y x) refl refl, λ e. subst (λ z. same_z x z ≡ true) e (same_self x))
-
-pub same_when : {x y : ℤ} → x ≡ y → same_z x y ≡ true
-same_when {x} e = subst (λ z. same_z x z ≡ true) e (same_self x)
-
-pub same_not : {x y : ℤ} → (x ≡ y → ⊥) → same_z x y ≡ false
-same_not {x} {y} n = go (same_z x y) refl
-  where
-    go : (t : Bool) → same_z x y ≡ t → t ≡ false
-    go true e = absurd (n (same_both x y (le_z x y) (le_z y x) refl refl e))
-    go false e = refl

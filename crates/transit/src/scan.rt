@@ -1,15 +1,17 @@
 // What the sender's states up to a cut have in transit on a channel: all of it, or whether a stamp is there.
-ghost use Rattle.std.specs.Prelude.{◌≡◌, List, ◌≤◌, ◌<◌, length, IfSome};
+ghost use Rattle.std.specs.Prelude.{◌≡◌, List, [], ◌≤◌, ◌<◌, length, IfSome};
 ghost use Rattle.model.specs.declared.Message.{Message};
+ghost use Rattle.model.specs.Run.{IsState};
 ghost use Rattle.model.specs.Clause.{some_of, same_z};
-ghost use Rattle.model.specs.Cut.{add, in_transit};
+ghost use Rattle.model.specs.Cut.{add, waiting, in_transit};
 ghost use Rattle.run.specs.Said.{run_in};
-ghost use Rattle.transit.specs.Waiting.{inside};
+ghost use Rattle.run.specs.Index.{IndexHolds};
+ghost use Rattle.transit.specs.Waiting.{inside, OfChannel};
 ghost use Rattle.transit.specs.Load.{LoadOf};
 ghost use Rattle.transit.specs.Asked.{Asked};
 
-use crate::Load;
 use crate::sender::{span_of, waits};
+use crate::{Load, Span};
 use model::Message;
 
 // The load with what one state more has in transit.
@@ -46,20 +48,26 @@ pub fn load_on(run: &[u8], index: &[u16], cut: &[u16], channel: u16) -> Option<L
     load
 }
 
-// Whether a message with this stamp is in transit there.
+// Whether state k of the channel's sender has a message with this stamp in transit.
+fn waits_with(run: &[u8], index: &[u16], span: Span, k: u16, stamp: i32) -> bool
+    requires { IndexHolds run.now index.now × OfChannel (run_in run.now) span × IsState (run_in run.now) span.from k }
+    ensures { result ≡ some_of (λ m. same_z m.stamp stamp) (add (waiting (run_in run.now) span.channel span.received k) []) }
+{
+    waits(run, index, span, k).is_some_and(|message| message.stamp == stamp)
+}
+
+// Whether a message with this stamp is in transit there. Counted by hand: a `for` and an `any` cost a quarter more on the workload of stamps.
 pub fn has_stamp(run: &[u8], index: &[u16], cut: &[u16], channel: u16, stamp: i32) -> bool
     requires { Asked run.now index.now cut.now channel }
     ensures { result ≡ some_of (λ m. same_z m.stamp stamp) (in_transit (run_in run.now) cut.now channel) }
 {
     let span = span_of(run, cut, channel);
-    // An `any` with `is_some_and` costs a quarter more on the workload of stamps.
-    for k in 0..span.sent {
-        let Some(message) = waits(run, index, span, k + 1) else {
-            continue;
-        };
-        if message.stamp == stamp {
+    let mut k: u16 = 0;
+    while k < span.sent {
+        if waits_with(run, index, span, k + 1, stamp) {
             return true;
         }
+        k += 1;
     }
     false
 }
