@@ -1,9 +1,11 @@
 -- What is in transit as the sender goes on by one state.
-use mathlib.Core.Path.{◌≡◌, refl, ap, ◌∙◌}
+use mathlib.Core.Path.{◌≡◌, refl, sym, ap, ◌∙◌}
 use mathlib.Core.Bool.{Bool, true, false, ◌||◌}
 use mathlib.Core.List.{List, []}
 use mathlib.Core.Option.{Option, some, none}
 use Prim.Native.Nat.{ℕ, zero, suc, ◌+◌, ◌≤◌, ◌<◌, zero-le}
+use Rattle.std.proofs.Common.{zero-add}
+use Rattle.std.specs.List.{list_any, range_with_len}
 use native.Mathlib.Numerals.{add-one}
 use native.Mathlib.Omega.{arith}
 use lib.ListN.{length}
@@ -12,9 +14,6 @@ use Rattle.model.specs.declared.Message.{Message}
 use Rattle.model.specs.Run.{Run, processes, channel, IsState}
 use Rattle.model.specs.Cut.{at, waiting, add, up_to, between, in_transit}
 use Rattle.model.specs.Clause.{some_of}
-use Rattle.model.proofs.Lists.{some_more}
-use Rattle.model.proofs.Numbers.{T_of, not_T_of}
-use Rattle.model.proofs.Transit.{between_more}
 use Rattle.record.specs.Record.{head_of}
 use Rattle.states.specs.States.{channel_at}
 use Rattle.run.specs.Read.{read_of}
@@ -34,6 +33,11 @@ some_add f (some m) ms = go (f m)
     go true = refl
     go false = refl
 
+or_next : (x y z : Bool) → ((x || y) || z) ≡ (y || (x || z))
+or_next true true z = refl
+or_next true false z = refl
+or_next false y z = refl
+
 pub or_false : (t : Bool) → (t || false) ≡ t
 or_false true = refl
 or_false false = refl
@@ -43,19 +47,24 @@ module _ (r : Run) (c b : ℕ) where
   unfolding between
   next_between k = rw add-one refl
 
-  -- none so far, and whether the next one does
-  pub some_next : (f : Message → Bool) (k : ℕ) → some_of f (between r c k b) ≡ false → some_of f (between r c (k + 1) b) ≡ some_of f (add (waiting r c b (k + 1)) [])
-  some_next f k d =
-      ap (some_of f) (next_between k) ∙ some_add f (waiting r c b (k + 1)) (between r c k b) ∙ ap (λ t. some_of f (add (waiting r c b (k + 1)) []) || t) d
-      ∙ or_false (some_of f (add (waiting r c b (k + 1)) []))
+  -- state k + 1 has a message for which f says so
+  abbrev pub one_more : (Message → Bool) → ℕ → Bool
+  one_more f k = some_of f (add (waiting r c b (k + 1)) [])
 
-  -- what one of the first states sends stays in transit however far the sender goes
-  pub some_stays : (f : Message → Bool) {k a : ℕ} → k ≤ a → some_of f (between r c k b) ≡ true → some_of f (between r c a b) ≡ true
-  some_stays f {k} {a} h e = go (some_of f (between r c a b)) refl
-    where
-      go : (t : Bool) → some_of f (between r c a b) ≡ t → t ≡ true
-      go true d = refl
-      go false d = absurd (not_T_of d (some_more f (between_more r c h (omega arith)) (T_of e)))
+  some_next : (f : Message → Bool) (k : ℕ) → some_of f (between r c (k + 1) b) ≡ (one_more f k || some_of f (between r c k b))
+  some_next f k = ap (some_of f) (next_between k) ∙ some_add f (waiting r c b (k + 1)) (between r c k b)
+
+  some_from : (f : Message → Bool) (n k : ℕ) → (list_any (one_more f) (range_with_len k n) || some_of f (between r c k b)) ≡ some_of f (between r c (k + n) b)
+  some_from f zero k = let e : k + 0 ≡ k = omega arith in rw e refl
+  some_from f (suc n) k =
+      let rest = list_any (one_more f) (range_with_len (k + 1) n) in
+      let e : k + 1 + n ≡ k + suc n = omega arith in
+      or_next (one_more f k) rest (some_of f (between r c k b)) ∙ ap (λ t. rest || t) (sym (some_next f k)) ∙ some_from f n (k + 1) ∙ ap (λ a. some_of f (between r c a b)) e
+
+  -- one of the states from 1 on has it
+  pub some_between : (f : Message → Bool) (n : ℕ) → list_any (one_more f) (range_with_len 0 n) ≡ some_of f (between r c n b)
+  unfolding between
+  some_between f n = sym (or_false (list_any (one_more f) (range_with_len 0 n))) ∙ some_from f n 0 ∙ ap (λ a. some_of f (between r c a b)) (zero-add n)
 
 -- the ends of a channel, as its record says them
 pub record Ends (r : Run) (c : ℕ) (e : Channel) : Type 0 where
