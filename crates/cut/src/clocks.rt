@@ -12,7 +12,13 @@ fn behind(index: &[u16], cut: &[u16], j: usize) -> Option<usize>
 {
     let k = cut[j];
     let clock = clock_of(index, j as u16, k);
-    (0..cut.len()).find(|&i| (i != j) & (cut[i] <= clock[i]))
+    // A `find` over the range costs three instructions more at each process.
+    for i in 0..cut.len() {
+        if (i != j) & (cut[i] <= clock[i]) {
+            return Some(i);
+        }
+    }
+    None
 }
 
 // Of the processes in order, the first whose clock somebody is behind: who is.

@@ -1,60 +1,50 @@
--- `behind` meets its contract: the first that the test says is the first that is behind.
-use Rattle.std.proofs.Common.{rules, tests, MatchOption, Option, Some, None}
-use Rattle.std.proofs.lemmas.Iterator.{first_from_Range, serves_from_Range}
-use Rattle.std.proofs.lemmas.List.{get_or_read}
+-- `behind` meets its contract: the first that passes the test, by the row of j's clock.
+use Rattle.std.proofs.Common.{Some, None, below_more}
 use native.Mathlib.Omega.{arith}
 use mathlib.Core.Path.{◌≡◌, refl, ap, ◌∙◌}
-use mathlib.Core.Bool.{Bool, true, false, not, ◌&&◌}
+use mathlib.Core.Bool.{true, false, not, ◌&&◌}
 use mathlib.Core.List.{List}
-use Prim.Native.Nat.{ℕ, ◌*◌, ◌≤◌, ◌<◌}
-use mir.Syntax.{w64}
-use mir.Val.{Fits}
+use Prim.Native.Nat.{ℕ, ◌<◌}
 use lib.Dec.{eqb, leb}
 use lib.ListN.{length, get_or}
 use Rattle.model.specs.Cut.{at}
-use Rattle.run.specs.Index.{clock_in, HasSlot}
+use Rattle.run.specs.Index.{HasSlot}
 use Rattle.run.proofs.Clocks.{clock_long, clock_part}
 use Rattle.cut.specs.Clocks.{if_behind, behind_of, InTable}
 use Rattle.cut.proofs.First.{first_sought}
 use Rattle.cut.proofs.clocks.behind.Goals as goal
 
--- the test, by the row of j's clock
-abbrev passes : List ℕ → List ℕ → ℕ → ℕ → Bool
-passes cut row j i = not (eqb i j) && leb (at cut i) (get_or row i 0)
-
-module _ (clock : ℕ → ℕ → ℕ → ℕ) (cut row : List ℕ) (j : ℕ) (is : (i : ℕ) → i < length cut → get_or row i 0 ≡ clock j (at cut j) i) where
-  named : (i : ℕ) → i < length cut → passes cut row j i ≡ true → if_behind clock cut j i ≡ Some i
-  unfolding if_behind
-  named i h e = rw (rw (is i h) at e) refl
-
-  passed_over : (i : ℕ) → i < length cut → passes cut row j i ≡ false → if_behind clock cut j i ≡ None
-  unfolding if_behind
-  passed_over i h e = rw (rw (is i h) at e) refl
-
-  sought : (r : Option ℕ) → MatchOption r ((k : ℕ) → 0 ≤ k → k < length cut → passes cut row j k ≡ false) (λ i. (0 ≤ i) × (i < length cut) × (passes cut row j i ≡ true) × ((k : ℕ) → 0 ≤ k → k < i → passes cut row j k ≡ false))
-      → r ≡ behind_of clock cut j
-  unfolding behind_of
-  sought None w = first_sought _ _ None (λ i h. passed_over i h (w i (omega arith) h))
-  sought (Some i) (low, h, e, w) = first_sought _ _ (Some i) (i, h, named i h e, λ k g. passed_over k (omega arith) (w k (omega arith) g))
-
 slot : (cut : List ℕ) (j : ℕ) → InTable cut → j < length cut → HasSlot j (at cut j)
 slot cut j w h = record { process = omega (arith, w.few); counted = w.counted j h; few = w.there j h }
 
-pub find-requires-clause-callable : goal.find-requires-clause-callable
-find-requires-clause-callable c =
-    let few = c.requires.1.few in
-    let long : length c.clock_of-clock.result.now ≡ 8 = ap length c.clock_of-clock.ensures ∙ clock_long _ c.requires.0 _ _ (slot c.args.cut.now c.args.j c.requires.1 c.requires.2) in
-    serves_from_Range (λ x q k. search (rules, tests)) (λ x low high y e.
-    let in_cut : y.now < length c.args.cut.now = omega arith in
-    let in_row : y.now < length c.clock_of-clock.result.now = omega arith in
-    let fits : Fits w64 (y.now * 2) = record { fits = omega arith } in
-    search rules)
+-- whether i passes, n being place i of j's clock
+named : (clock : ℕ → ℕ → ℕ → ℕ) (cut : List ℕ) (j i : ℕ) {n : ℕ} → n ≡ clock j (at cut j) i → (not (eqb i j) && leb (at cut i) n) ≡ true → if_behind clock cut j i ≡ Some i
+unfolding if_behind
+named clock cut j i is e = rw (rw is at e) refl
+
+passed_over : (clock : ℕ → ℕ → ℕ → ℕ) (cut : List ℕ) (j i : ℕ) {n : ℕ} → n ≡ clock j (at cut j) i → (not (eqb i j) && leb (at cut i) n) ≡ false → if_behind clock cut j i ≡ None
+unfolding if_behind
+passed_over clock cut j i is e = rw (rw is at e) refl
+
+pub bounds-clock-i : goal.bounds-clock-i
+bounds-clock-i c =
+    let r = c.requires in
+    omega (arith, r.1.few, c.loop-i-test.true, ap length c.clock_of-clock.ensures ∙ clock_long _ r.0 _ _ (slot _ _ r.1 r.2))
+
+pub returns-then-i-j : goal.returns-then-i-j
+unfolding behind_of
+returns-then-i-j c =
+    let r = c.requires in
+    let h = c.loop-i-test.true in
+    let told = ap (λ l. get_or l c.loop-i.i 0) c.clock_of-clock.ensures ∙ clock_part _ r.0 _ _ (slot _ _ r.1 r.2) _ (omega (arith, r.1.few, h)) in
+    first_sought _ _ (Some c.loop-i.i) (c.loop-i.i, h, named _ _ _ _ told c.if-i-j.true, c.loop-i.invariant)
+
+pub loop-i-preserved : goal.loop-i-preserved
+loop-i-preserved c =
+    let r = c.requires in
+    let told = ap (λ l. get_or l c.loop-i.i 0) c.clock_of-clock.ensures ∙ clock_part _ r.0 _ _ (slot _ _ r.1 r.2) _ (omega (arith, r.1.few, c.loop-i-test.true)) in
+    below_more _ _ c.loop-i.invariant (passed_over _ _ _ _ told c.if-i-j.false)
 
 pub returns : goal.returns
-returns c =
-    let cut = c.args.cut.now in
-    let row = c.clock_of-clock.result.now in
-    let told : (i : ℕ) → i < length cut → get_or row i 0 ≡ clock_in c.args.index.now c.args.j (at cut c.args.j) i = λ i h. ap (λ l. get_or l i 0) c.clock_of-clock.ensures ∙ clock_part _ c.requires.0 _ _ (slot cut c.args.j c.requires.1 c.requires.2) _ (omega (arith, c.requires.1.few)) in
-    sought _ cut row c.args.j told _ (first_from_Range _ _ _ _ (λ i. passes cut row c.args.j i ≡ true) (λ i. passes cut row c.args.j i ≡ false) c.find.ensures.ran
-    (λ x q k. grind (arith, tests, get_or_read))
-    (λ x q k. (search rules, grind (arith, tests, get_or_read))))
+unfolding behind_of
+returns c = first_sought _ _ None (λ k h. c.loop-i.invariant k (omega (arith, c.loop-i-test.false)))
