@@ -47,7 +47,7 @@ def numbers_by(pattern: str, text: str) -> list[int]:
 
 def told(root: Path) -> Iterator[tuple[str, list[int]]]:
     """Where the numbers stand beside the definitions."""
-    yield CONSTANTS, numbers_by(r"(?m)^pub const \w+: u16 = (\d+);$", (root / CONSTANTS).read_text("utf-8"))
+    yield CONSTANTS, numbers_by(r"(?m)^ +Reason::\w+ => (\d+),$", (root / CONSTANTS).read_text("utf-8"))
     block = re.search(r"(?m)^TOO_LONG = 1\n(?:[A-Z_]+ = \d+\n)*", (root / SECOND).read_text("utf-8"))[0]
     yield SECOND, numbers_by(r"= (\d+)", block)
     names = re.search(r"enum reason \{\s*ACCEPTED,([^}]*)\}", (root / BASELINE).read_text("utf-8"))[1]

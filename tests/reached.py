@@ -66,7 +66,7 @@ def scope_of(lines: list[str]) -> Scope:
         if use[3]:
             scope[use[3]] = (module, None)
         for imported in (use[2] or "").split(", "):
-            name, _, other = imported.partition(" as ")
+            name, _, other = imported.strip("◌").partition(" as ")
             # What is imported from within a type is a variant of that type.
             scope[other or name] = (module, spec[3] or name)
     return scope
@@ -94,7 +94,8 @@ class Specs:
                 continue
             head = HEAD.match(text)
             if head:
-                word = Word(module, head["type"] or head["value"])
+                # An operator `◌then◌` is written `then` where it is used.
+                word = Word(module, (head["type"] or head["value"]).strip("◌"))
                 self.lines[word] = []
             elif word and "data " in self.lines[word][0]:
                 self.read_variants(word, line)

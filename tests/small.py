@@ -240,7 +240,7 @@ NUMBERED = Small(
     "a repository whose refusals have the same numbers everywhere",
     {
         REASONS: "number too_long = 1\nnumber cut_short = 2\n-- 18 isn't used again\n",
-        CONSTANTS: "pub const TOO_LONG: u16 = 1;\n\npub const CUT_SHORT: u16 = 2;\n",
+        CONSTANTS: "    Reason::TooLong => 1,\n    Reason::CutShort => 2,\n",
         SECOND: "TOO_LONG = 1\nCUT_SHORT = 2\n\nOTHER = 18\n",
         BASELINE: "enum reason {\n    ACCEPTED,\n    TOO_LONG,\n    CUT_SHORT\n};\n",
         LISTS: "run_numbers = 1 ∷ []\n\ncondition_numbers = 2 ∷ []\n",
@@ -275,7 +275,7 @@ Older handbooks list a refusal 18, which no file can give.
     (
         Change("the old number given again", REASONS, "--", "number early = 18\n--",
                ("18 is given again", *["[1, 2] in place of [1, 2, 18]"] * 6, "18 is spoken of at [3, 4]")),
-        Change("a constant more", CONSTANTS, "= 2;\n", "= 2;\n\npub const MORE: u16 = 3;\n",
+        Change("a reason more", CONSTANTS, "=> 2,\n", "=> 2,\n    Reason::More => 3,\n",
                ("[1, 2, 3] in place of [1, 2]",)),
         Change("another number in the second program", SECOND, "= 2", "= 3", ("[1, 3] in place of [1, 2]",)),
         Change("a reason more in the baseline", BASELINE, "CUT_SHORT", "CUT_SHORT,\n    EARLY",

@@ -1,5 +1,5 @@
 // Little-endian numbers of a slice, read by plain indices: each caller shows that the bytes are there.
-ghost use Rattle.std.specs.Prelude.{◌≡◌, ◌+◌, ◌-◌, ◌≤◌, ◌<◌, length};
+ghost use Rattle.std.specs.Prelude.{◌≡◌, ◌+◌, ◌-◌, ◌≤◌, length};
 ghost use Rattle.record.specs.Bytes.{u16_at, u32_at, i32_at, signed};
 
 #[tactic(auto, unfolding(crate::specs::Bytes::u16_at))]

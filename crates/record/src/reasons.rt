@@ -26,7 +26,7 @@ pub enum Reason {
     NoChannel,
 }
 
-// The paper's number. 18 isn't used again: older handbooks list it, and no file could give it.
+// The paper's number.
 impl From<Reason> for u16 {
     ghost from_gives = { λ reason n. n ≡ number reason };
 

@@ -1,3 +1,4 @@
+-- `load_with` meets its contract: one state more has a message in transit, or none.
 use borrow.Author.Rules.{rules, sfits_of}
 use Rattle.std.proofs.lemmas.Int.{ints}
 use Rattle.model.proofs.Numbers.{T_of, not_T_of}
