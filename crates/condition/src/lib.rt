@@ -9,7 +9,7 @@ pub mod movers;
 pub mod pass;
 pub mod reading;
 
-// A local clause as its record says it.
+// A local clause as its record says it. The comparison stays a number: an unknown one is refused only behind the tests for 7.
 #[derive(Clone, Copy)]
 pub struct Local {
     pub process: u16,
@@ -18,7 +18,8 @@ pub struct Local {
     pub constant: i32,
 }
 
-// A channel clause as its record says it.
+// A channel clause as its record says it. The test stays a number: an unknown one is refused only behind the test for 7, and who has to move is a match over
+// the test numbers (docs/DECISIONS.md, "The named forms").
 #[derive(Clone, Copy)]
 pub struct Test {
     pub channel: u16,

@@ -38,7 +38,7 @@ fn note(places: &mut [u16], item: Item, owed: u16, count: u16, at: usize) -> u16
     }
 }
 
-// Record by record from the front.
+// Record by record from the front, as in `run::pass`; here each clause read is one less owed.
 fn read_records(cond: &[u8], head: Head, places: &mut [u16]) -> Result<u16, Refusal>
     requires { (length cond.now ≤ 65535) × (length places.old ≡ 32) }
     ensures { ConditionPassed (read_records (condition_pass cond.now head)) result places.new }

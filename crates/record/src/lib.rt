@@ -38,7 +38,7 @@ pub struct ChannelFields {
     pub to: u16,
 }
 
-// The fields of a state record as they stand there.
+// The fields of a state record as they stand there. The event stays a number: an unknown one is refused (8) only behind 7 and 5.
 #[derive(Clone, Copy)]
 pub struct StateFields {
     pub process: u16,

@@ -22,7 +22,8 @@ fn note(index: &mut [u16], item: Record, at: usize)
     }
 }
 
-// Record by record from the front.
+// Record by record from the front. Where the next one stands is known only behind this one, and each may end the pass: a loop, and no iterator. The loop of
+// `condition::pass` is another: it counts what is owed, which one loop for both would have to be given as six functions.
 fn read_records(run: &[u8], head: Head, index: &mut [u16]) -> Result<Head, Refusal>
     requires { (length run.now ≤ 65535) × (head ≡ head_of run.now) × (index.old ≡ replicate index_size 0) }
     ensures { RunPassed run.now (read_records (run_pass run.now)) result index.new }

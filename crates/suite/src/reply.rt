@@ -86,6 +86,7 @@ pub fn answer<'a>(rt: &impl Print, case: Case<'a>) -> io::Result<()> {
     let mut room = [0u16; 24];
     let n = room.len().min(usize::from(extra));
     let places = &mut room[..n];
+    // The question is the input's number: here alone it is taken apart.
     match question {
         1 => search(rt, run, cond, places),
         2 => print_verdict(rt, questions::consistency::is_consistent(run, cut)),
