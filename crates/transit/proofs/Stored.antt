@@ -1,5 +1,5 @@
 -- Room for each state of an accepted run, and its values where the index has it.
-use mathlib.Core.Path.{◌≡◌, sym, ap, ◌∙◌}
+use mathlib.Core.Path.{◌≡◌, sym, ap, ◌∙◌, subst}
 use mathlib.Core.List.{List}
 use Prim.Native.Nat.{ℕ, ◌+◌, ◌≤◌, ◌<◌}
 use native.Mathlib.Omega.{arith}
@@ -12,7 +12,12 @@ use Rattle.states.specs.States.{state_at}
 use Rattle.states.proofs.Tabulate.{tabulate-at}
 use Rattle.run.specs.Said.{run_in}
 use Rattle.run.specs.Index.{place_at, IndexHolds}
+use Rattle.run.specs.Seen.{Seen}
 use Rattle.run.proofs.Listed.{ok, processes_are, listed_slot, listed_state, listed_whole}
+
+-- of an accepted run with its index, as contracts see it
+pub holds_seen : {s ix : List ℕ} {v : Seen} → IndexHolds s ix → record { run = s; index = ix } ≡ v → IndexHolds v.run v.index
+holds_seen {v = v} w e = subst (λ (v : Seen). IndexHolds v.run v.index) e w
 
 module _ {s ix : List ℕ} (w : IndexHolds s ix) where
   pub processes_few : processes (run_in s) ≤ 8
