@@ -11,8 +11,10 @@ use judging::whole::judge_run;
 use record::reasons::{Reason, refusal_of};
 use record::{File, Head, Refusal};
 use run::index::INDEX_SIZE;
+use run::indexed::Indexed;
 use search::Outcome;
 use search::eliminate::search;
+use search::sought::Sought;
 
 // The cut is sought in a row of its own, so that no lent place changes unless it is found.
 fn search_in(
@@ -26,7 +28,13 @@ fn search_in(
     requires { Searching run.now cond.now index.now clauses.now cut.old lent.old }
     ensures { Answered run.now cond.now lent.old lent.new result }
 {
-    let outcome = search(run, index, cond, clauses, cut);
+    let held = Indexed { run, index };
+    let sought = Sought {
+        run: &held,
+        cond,
+        clauses,
+    };
+    let outcome = search(&sought, cut);
     let Outcome::Found = outcome else {
         return Ok(outcome);
     };
@@ -98,7 +106,8 @@ fn with_channels(
         return Ok(outcome);
     };
     let size = head.processes as usize;
-    list_channels(run, index, &lent[..size], head.channels, counts, stamps);
+    let held = Indexed { run, index };
+    list_channels(&held, &lent[..size], head.channels, counts, stamps);
     Ok(outcome)
 }
 

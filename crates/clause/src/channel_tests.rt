@@ -12,6 +12,7 @@ ghost use Rattle.clause.specs.ChannelTests.{CountKnown};
 
 use condition::Test;
 use record::bytes::signed_of;
+use run::indexed::Indexed;
 use transit::Load;
 use transit::scan::{has_stamp, load_on};
 
@@ -58,26 +59,22 @@ fn lowest_passes(test: u16, operand: u32, load: Option<Load>) -> bool
 }
 
 // Tests 4 to 7, by a look through the sender's history.
-fn stamps_pass(run: &[u8], index: &[u16], cut: &[u16], clause: Test) -> bool
-    requires { Asked run.now index.now cut.now clause.channel × (4 ≤ clause.test) × (clause.test ≤ 7) }
-    ensures { result ≡ passes (test_of clause.test clause.operand) (in_transit (run_in run.now) cut.now clause.channel) }
+fn stamps_pass(run: &Indexed<'_>, cut: &[u16], clause: Test) -> bool
+    requires { Asked run.now.run cut.now clause.channel × (4 ≤ clause.test) × (clause.test ≤ 7) }
+    ensures { result ≡ passes (test_of clause.test clause.operand) (in_transit (run_in run.now.run) cut.now clause.channel) }
 {
     let test = clause.test;
     match test {
-        4 => has_stamp(run, index, cut, clause.channel, signed_of(clause.operand)),
-        5 => !has_stamp(run, index, cut, clause.channel, signed_of(clause.operand)),
-        _ => lowest_passes(
-            test,
-            clause.operand,
-            load_on(run, index, cut, clause.channel),
-        ),
+        4 => has_stamp(run, cut, clause.channel, signed_of(clause.operand)),
+        5 => !has_stamp(run, cut, clause.channel, signed_of(clause.operand)),
+        _ => lowest_passes(test, clause.operand, load_on(run, cut, clause.channel)),
     }
 }
 
 // Whether a channel clause holds at a cut, of whose channel it is known how many messages are in transit.
-pub fn channel_passes(run: &[u8], index: &[u16], cut: &[u16], clause: Test, count: usize) -> bool
-    requires { CountKnown run.now index.now cut.now clause count }
-    ensures { result ≡ passes (test_of clause.test clause.operand) (in_transit (run_in run.now) cut.now clause.channel) }
+pub fn channel_passes(run: &Indexed<'_>, cut: &[u16], clause: Test, count: usize) -> bool
+    requires { CountKnown run.now.run cut.now clause count }
+    ensures { result ≡ passes (test_of clause.test clause.operand) (in_transit (run_in run.now.run) cut.now clause.channel) }
 {
     if clause.test <= 3 {
         return count_passes(clause.test, clause.operand, count);
@@ -85,5 +82,5 @@ pub fn channel_passes(run: &[u8], index: &[u16], cut: &[u16], clause: Test, coun
     if count == 0 {
         return empty_passes(clause.test);
     }
-    stamps_pass(run, index, cut, clause)
+    stamps_pass(run, cut, clause)
 }

@@ -3,13 +3,11 @@ use Rattle.std.specs.Prelude.{◌≡◌, List, Option, Some, None, ℕ, ℤ, set
 use Rattle.model.specs.Cut.{IsCut}
 use Rattle.record.specs.Record.{head_of}
 use Rattle.run.specs.Said.{run_in}
-use Rattle.run.specs.Index.{IndexHolds}
 use Rattle.transit.specs.declared.Load.{Load}
 use Rattle.cut.specs.Listing.{Room}
 
--- an accepted run with its index, one of its cuts, all its channels, and a place for each of them in both rows
-pub record Listable (s ix cut : List ℕ) (channels : ℕ) (counts : List ℕ) (stamps : List ℤ) : Type 0 where
-  pub index : IndexHolds s ix
+-- one of the run's cuts, all its channels, and a place for each of them in both rows
+pub record Listable (s cut : List ℕ) (channels : ℕ) (counts : List ℕ) (stamps : List ℤ) : Type 0 where
   pub is_cut : IsCut (run_in s) cut
   pub all : channels ≡ (head_of s).channels
   pub room : Room channels counts stamps

@@ -4,6 +4,7 @@ ghost use Rattle.run.specs.Said.{run_in};
 ghost use Rattle.cut.specs.Entered.{Listable, with_lowest};
 ghost use Rattle.cut.specs.Listing.{Wrote, WroteLowest, on_each};
 
+use run::indexed::Indexed;
 use transit::Load;
 use transit::scan::{count_in, load_on};
 
@@ -26,20 +27,21 @@ fn enter(load: Option<Load>, i: usize, stamps: &mut [i32])
 
 // How many messages are on each channel, and the lowest of their stamps.
 pub fn list_channels(
-    run: &[u8],
-    index: &[u16],
+    run: &Indexed<'_>,
     cut: &[u16],
     channels: u16,
     counts: &mut [u16],
     stamps: &mut [i32],
 )
-    requires { Listable run.now index.now cut.now channels counts.old stamps.old }
-    ensures { Wrote (on_each (run_in run.now) cut.now) counts.old counts.new
-        × WroteLowest (run_in run.now) cut.now channels stamps.old stamps.new }
+    requires { Listable run.now.run cut.now channels counts.old stamps.old }
+    ensures { Wrote (on_each (run_in run.now.run) cut.now) counts.old counts.new
+        × WroteLowest (run_in run.now.run) cut.now channels stamps.old stamps.new }
 {
+    // That the index holds is known from here on: the head's channels are all that the run has.
+    let _ = &run.index;
     for channel in 0..channels {
         let i = channel as usize;
-        let load = load_on(run, index, cut, channel);
+        let load = load_on(run, cut, channel);
         counts[i] = count_in(load) as u16;
         enter(load, i, stamps);
     }

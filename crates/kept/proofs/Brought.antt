@@ -19,7 +19,7 @@ use Rattle.model.proofs.Messages.{send_sends, receive_receives}
 use Rattle.model.proofs.Kept.{kept_sender, kept_receiver, kept_still}
 use Rattle.states.specs.States.{channel_at}
 use Rattle.run.specs.Said.{run_in}
-use Rattle.run.specs.Index.{index_size, partner_at, HasSlot}
+use Rattle.run.specs.Index.{partner_at, HasSlot, IndexHolds}
 use Rattle.run.proofs.Listed.{channels_are, listed_slot}
 use Rattle.transit.proofs.Between.{Ends, ends_of, up_to_few}
 use Rattle.transit.proofs.Stored.{states_few}
@@ -27,12 +27,16 @@ use Rattle.kept.specs.Kept.{CountsKept, MayMove}
 use Rattle.kept.proofs.Counted.{none_changed, CountedMessage, counted_message}
 use Rattle.kept.proofs.Partners.{sent_past, received_past}
 
-module _ {s ix cut : List ℕ} {p : ℕ} (w : MayMove s ix cut p) where
+-- the code's test of a partner
+abbrev pub past_in : List ℕ → ℕ → ℕ → ℕ → Bool
+past_in ix p k state = eqb (get_or ix (partner_at p k) 0) 0 || ltb state (get_or ix (partner_at p k) 0)
+
+module _ {s ix cut : List ℕ} (holds : IndexHolds s ix) {p : ℕ} (w : MayMove s cut p) where
   abbrev r : Run
   r = run_in s
 
   known : Known r
-  known = w.index.known
+  known = holds.known
 
   abbrev next : ℕ
   next = at cut p + 1
@@ -40,19 +44,19 @@ module _ {s ix cut : List ℕ} {p : ℕ} (w : MayMove s ix cut p) where
   pub next_state : IsState r p next
   next_state = record { counted = omega arith; there = omega (arith, w.further) }
 
-  pub has_slot : (length ix ≡ index_size) × HasSlot p next
-  has_slot = (w.index.listed.long, listed_slot s ix w.index.listed next_state)
+  pub next_slot : HasSlot p next
+  next_slot = listed_slot s ix holds.listed next_state
 
   -- the ends of a channel, which the cut has
   pub ends_in : {c : ℕ} → c < length r.channels → {e : Channel} → e ≡ channel_at s c → Ends r c e
-  ends_in h z = let read = w.index.listed.read in ends_of s read (omega (arith, channels_are s read)) z
+  ends_in h z = let read = holds.listed.read in ends_of s read (omega (arith, channels_are s read)) z
 
   pub in_cut : {c : ℕ} {e : Channel} → Ends r c e → (e.from < length cut) × (e.to < length cut)
   in_cut ends = (omega (arith, ends.from, w.is_cut.size), omega (arith, ends.to, w.is_cut.size))
 
-  -- the code's test of the partner of that state
+  -- of that state's partner
   abbrev pub past_of : ℕ → Bool
-  past_of state = eqb (get_or ix (partner_at p next) 0) 0 || ltb state (get_or ix (partner_at p next) 0)
+  past_of = past_in ix p next
 
   -- what is in transit, and what is received but not yet sent, before the move and after it
   abbrev on : ℕ → List Message
@@ -70,11 +74,11 @@ module _ {s ix cut : List ℕ} {p : ℕ} (w : MayMove s ix cut p) where
   -- neither number reaches what a place can hold
   on_few : (c : ℕ) → c < length r.channels → length (on c) < 65535
   unfolding in_transit between
-  on_few c h = let from = (known.sides.ends c h).0 in omega (arith, up_to_few (waiting r c (at cut (channel r c).to)) (at cut (channel r c).from), states_few w.index (w.is_cut.states _ from))
+  on_few c h = let from = (known.sides.ends c h).0 in omega (arith, up_to_few (waiting r c (at cut (channel r c).to)) (at cut (channel r c).from), states_few holds (w.is_cut.states _ from))
 
   early_few : (c : ℕ) → c < length r.channels → length (early c) < 65535
   unfolding not_yet_sent ahead
-  early_few c h = let to = (known.sides.ends c h).1 in omega (arith, up_to_few (unsent r c (at cut (channel r c).from)) (at cut (channel r c).to), states_few w.index (w.is_cut.states _ to))
+  early_few c h = let to = (known.sides.ends c h).1 in omega (arith, up_to_few (unsent r c (at cut (channel r c).from)) (at cut (channel r c).to), states_few holds (w.is_cut.states _ to))
 
   -- a channel that isn't that of the event
   elsewhere : (d : ℕ) → ((m : Message) → into r p next ≡ Send m → m.channel ≡ d) → ((m : Message) → into r p next ≡ Receive m → m.channel ≡ d)
@@ -97,7 +101,7 @@ module _ {s ix cut : List ℕ} {p : ℕ} (w : MayMove s ix cut p) where
         let (named, own) = known.sides.sender p next m e in
         let others = elsewhere c (λ n g. ap (λ x. x.channel) (let same : n ≡ m = cc (g, e) in same)) (λ n g. never (cc (g, e))) in
         counted_message on early on' early' kept.first kept.second named _ (λ x y a b. record { first = a; second = b }) past m
-        (rw (send_sends r c next m (subst (λ q. into r q next ≡ Send m) (sym own) e) refl, sent_past r known ix w.index.partners p next m e (at cut (channel r c).to), ← z)
+        (rw (send_sends r c next m (subst (λ q. into r q next ≡ Send m) (sym own) e) refl, sent_past r known ix holds.partners p next m e (at cut (channel r c).to), ← z)
         at (kept_sender r known cut w.is_cut p w.process c named own))
         (on_few c named) (λ d h n. (others d h n).0) (λ d h n. (others d h n).1)
 
@@ -109,6 +113,6 @@ module _ {s ix cut : List ℕ} {p : ℕ} (w : MayMove s ix cut p) where
         let (named, own) = known.sides.receiver p next m e in
         let others = elsewhere c (λ n g. never (cc (g, e))) (λ n g. ap (λ x. x.channel) (let same : n ≡ m = cc (g, e) in same)) in
         counted_message early on early' on' kept.second kept.first named _ (λ x y a b. record { first = b; second = a }) past m
-        (rw (receive_receives r c next m (subst (λ q. into r q next ≡ Receive m) (sym own) e) refl, received_past r known ix w.index.partners p next m e (at cut (channel r c).from), ← z)
+        (rw (receive_receives r c next m (subst (λ q. into r q next ≡ Receive m) (sym own) e) refl, received_past r known ix holds.partners p next m e (at cut (channel r c).from), ← z)
         at (kept_receiver r known cut w.is_cut p w.process c named own))
         (early_few c named) (λ d h n. (others d h n).1) (λ d h n. (others d h n).0)

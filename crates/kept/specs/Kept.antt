@@ -5,7 +5,6 @@ use Rattle.model.specs.Run.{Run, processes, count}
 use Rattle.model.specs.Cut.{at, IsCut, in_transit}
 use Rattle.model.specs.NotYetSent.{not_yet_sent}
 use Rattle.run.specs.Said.{run_in}
-use Rattle.run.specs.Index.{IndexHolds}
 
 -- the row has for each channel of the run how many of these messages there are
 pub record EachCounted (r : Run) (messages : ℕ → List Message) (row : List ℕ) : Type 0 where
@@ -17,9 +16,8 @@ pub record CountsKept (r : Run) (cut counts unsent : List ℕ) : Type 0 where
   pub first : EachCounted r (in_transit r cut) counts
   pub second : EachCounted r (not_yet_sent r cut) unsent
 
--- an accepted run with its index, one of its cuts, and a process that has a further state there
-pub record MayMove (s ix cut : List ℕ) (p : ℕ) : Type 0 where
-  pub index : IndexHolds s ix
+-- one of the run's cuts, and a process that has a further state there
+pub record MayMove (s cut : List ℕ) (p : ℕ) : Type 0 where
   pub is_cut : IsCut (run_in s) cut
   pub process : p < processes (run_in s)
   pub further : at cut p < count (run_in s) p

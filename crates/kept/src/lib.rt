@@ -9,8 +9,8 @@ ghost use Rattle.run.specs.Index.{index_size, partner_at, HasSlot};
 ghost use Rattle.kept.specs.Kept.{CountsKept, MayMove, Countable};
 
 use model::Event;
-use run::index::{event_at, partner_of};
-use states::held::channel_at;
+use run::index::partner_of;
+use run::indexed::Indexed;
 
 // Whether the other end of what state k of process p sends or receives is past a state of its own process. A partner of 0 is nowhere.
 fn other_end_past(index: &[u16], p: u16, k: u16, state: u16) -> bool
@@ -36,29 +36,29 @@ fn count_message(past: bool, channel: usize, own: &mut [u16], other: &mut [u16])
 
 // Both numbers of each channel as process p moves into its next state, which the cut doesn't have yet.
 pub fn bring_forward(
-    run: &[u8],
-    index: &[u16],
+    run: &Indexed<'_>,
     cut: &[u16],
     p: usize,
     counts: &mut [u16],
     unsent: &mut [u16],
 )
-    requires { MayMove run.now index.now cut.now p × CountsKept (run_in run.now) cut.now counts.old unsent.old }
-    ensures { CountsKept (run_in run.now) (move_on cut.now p) counts.new unsent.new }
+    requires { MayMove run.now.run cut.now p × CountsKept (run_in run.now.run) cut.now counts.old unsent.old }
+    ensures { CountsKept (run_in run.now.run) (move_on cut.now p) counts.new unsent.new }
 {
+    let index = run.index;
     let process = p as u16;
     let k = cut[p] + 1;
-    let event = event_at(run, index, process, k);
+    let event = run.event(process, k);
     match event {
         Event::Start => {}
         Event::Internal => {}
         Event::Send(message) => {
-            let ends = channel_at(run, message.channel);
+            let ends = run.channel(message.channel);
             let past = other_end_past(index, process, k, cut[ends.to as usize]);
             count_message(past, message.channel as usize, counts, unsent);
         }
         Event::Receive(message) => {
-            let ends = channel_at(run, message.channel);
+            let ends = run.channel(message.channel);
             let past = other_end_past(index, process, k, cut[ends.from as usize]);
             count_message(past, message.channel as usize, unsent, counts);
         }

@@ -8,6 +8,7 @@ use judging::whole::judge_run;
 use record::reasons::{Reason, refusal_of};
 use record::{File, Head, Refusal};
 use run::index::INDEX_SIZE;
+use run::indexed::Indexed;
 
 // Of an accepted run: 16, 15, or the numbers.
 fn list_in(
@@ -26,7 +27,8 @@ fn list_in(
     if (counts.len() < size) | (stamps.len() < size) {
         return Err(refusal_of(File::Run, Reason::NoRoom, 0));
     }
-    list_channels(run, index, cut, head.channels, counts, stamps);
+    let held = Indexed { run, index };
+    list_channels(&held, cut, head.channels, counts, stamps);
     Ok(())
 }
 

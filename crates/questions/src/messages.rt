@@ -7,6 +7,7 @@ use judging::whole::judge_run;
 use record::reasons::{Reason, refusal_of};
 use record::{File, Head, Refusal};
 use run::index::INDEX_SIZE;
+use run::indexed::Indexed;
 use transit::Load;
 use transit::scan::load_on;
 
@@ -25,7 +26,8 @@ fn messages_in(
     if head.channels <= channel {
         return Err(refusal_of(File::Run, Reason::NoChannel, 0));
     }
-    Ok(load_on(run, index, cut, channel))
+    let held = Indexed { run, index };
+    Ok(load_on(&held, cut, channel))
 }
 
 // How many messages are in transit on a channel at the cut, consistent or not, and the lowest of their stamps.

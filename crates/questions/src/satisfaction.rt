@@ -8,7 +8,9 @@ use condition::pass::read_condition;
 use judging::whole::judge_run;
 use record::{Head, Refusal};
 use run::index::INDEX_SIZE;
+use run::indexed::Indexed;
 use search::satisfying::satisfied;
+use search::sought::Sought;
 
 // Of an accepted run and an accepted condition: 16, or the answer.
 fn satisfies_at(
@@ -23,7 +25,13 @@ fn satisfies_at(
     ensures { AskedSatisfies run.now cond.now cut.now result }
 {
     given_cut(index, cut, head)?;
-    Ok(satisfied(run, index, cond, clauses, cut, head.channels))
+    let held = Indexed { run, index };
+    let sought = Sought {
+        run: &held,
+        cond,
+        clauses,
+    };
+    Ok(satisfied(&sought, cut, head.channels))
 }
 
 // Of an accepted run: the condition's refusal, or what follows it.

@@ -21,7 +21,7 @@ use Rattle.model.proofs.Total.{total-set, total_few}
 use Rattle.record.specs.Record.{head_of}
 use Rattle.run.specs.Said.{run_in}
 use Rattle.run.specs.Index.{clock_in}
-use Rattle.run.proofs.Listed.{ok, processes_are, listed_count}
+use Rattle.run.proofs.Listed.{ok, processes_are}
 use Rattle.condition.specs.Clauses.{clauses_of}
 use Rattle.condition.specs.Known.{clause_at}
 use Rattle.condition.proofs.Accepted.{known_linear}
@@ -149,29 +149,24 @@ module _ {s c ix qs : List ℕ} (g : Given s c ix qs) where
     moved_clocks d (one x m p t) e = never (cc)
 
     -- and where those name nobody either, the channel clauses
-    pub moved_channels : {a b d : Option ℕ} → a ≡ None → Moved r cs ix cut is_local a → KindTested r cs cut false b → d ≡ b → Moved r cs ix cut every d
-    moved_channels e (nobody v k) (all w) same = rw same (nobody (λ x m t. go x m (is_local x) refl) k)
+    pub moved_channels : {a b : Option ℕ} → a ≡ None → Moved r cs ix cut is_local a → KindTested r cs cut false b → Moved r cs ix cut every b
+    moved_channels e (nobody v k) (all w) = nobody (λ x m t. go x m (is_local x) refl) k
       where
         go : (x : Clause) → Memᴰ x cs → (t : Bool) → is_local x ≡ t → T (holds r cut x)
         go x m true h = v x m h
         go x m false h = w x m h
-    moved_channels e (nobody v k) (one x m p t) same = rw same (moved_clause {locals = false} refl (one x m p t))
-    moved_channels e (process p h m) w same = never (cc)
+    moved_channels e (nobody v k) (one x m p t) = moved_clause {locals = false} refl (one x m p t)
+    moved_channels e (process p h m) w = never (cc)
 
     -- somebody is named before the channel clauses are asked
-    pub moved_before : {a b : Option ℕ} {p : ℕ} → a ≡ Some p → Moved r cs ix cut is_local a → b ≡ Some p → Moved r cs ix cut every b
-    moved_before d (nobody v k) e = never (cc)
-    moved_before {p = p} d (process q h m) e = let same : q ≡ p = cc in rw e (subst (λ p. Moved r cs ix cut every (Some p)) same (process q h m))
+    pub moved_before : {a : Option ℕ} → (a ≡ None → ⊥) → Moved r cs ix cut is_local a → Moved r cs ix cut every a
+    moved_before n (nobody v k) = absurd (n refl)
+    moved_before n (process p h m) = process p h m
 
     -- whom the local clauses name, or else the clocks
     pub moved_first : {a b : Option ℕ} → KindTested r cs cut true a → MatchOption a (b ≡ too_low (clock_in ix) cut) (λ p. b ≡ Some p) → Moved r cs ix cut is_local b
     moved_first {a = None} t w = moved_clocks refl t w
     moved_first {a = Some p} t w = rw w (moved_clause refl t)
-
-    -- or else the channel clauses
-    pub moved_last : {a b : Option ℕ} → Moved r cs ix cut is_local a → MatchOption a (KindTested r cs cut false b) (λ p. b ≡ Some p) → Moved r cs ix cut every b
-    moved_last {a = None} t w = moved_channels refl t w refl
-    moved_last {a = Some p} t w = moved_before refl t w
 
     pub in_table : InTable cut
     in_table = cut_in_table g.index cut is
@@ -181,14 +176,14 @@ module _ {s c ix qs : List ℕ} (g : Given s c ix qs) where
     search_found e (nobody w v) = found (arrive r cs cut low (all_tested r (clock_in ix) cs cut g.index.clocks is v (λ k m. w k m refl)))
     search_found e (process p h m) = never (cc)
 
-    -- who is named, and where the index and the cut have it
+    -- who is named, and where the head and the cut have it
     pub record Located (p : ℕ) : Type 0 where
       pub there : p < processes r
+      pub headed : p < (head_of s).processes
       pub must : MustMove r cs cut p
       pub row : p < 8
       pub inside : p < length cut
       pub small : at cut p ≤ 512
-      pub counted : get_or ix p 0 ≡ count r p
 
     named : {p : ℕ} → p < processes r → MustMove r cs cut p → Located p
     named {p} h m =
@@ -196,7 +191,7 @@ module _ {s c ix qs : List ℕ} (g : Given s c ix qs) where
         let l : p < (head_of s).processes = omega (arith, processes_are s read) in
         let few = (ok s read).head.few in
         let inside : p < length cut = omega (arith, is.size) in
-        record { there = h; must = m; row = omega arith; inside = inside; small = in_table.there p inside; counted = listed_count s ix g.index.listed p l }
+        record { there = h; headed = l; must = m; row = omega arith; inside = inside; small = in_table.there p inside }
 
     pub moved_process : {b : Option ℕ} {p : ℕ} → b ≡ Some p → Moved r cs ix cut every b → Located p
     moved_process e (nobody w v) = never (cc)

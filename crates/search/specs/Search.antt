@@ -20,9 +20,8 @@ pub record Given (s c ix qs : List ℕ) : Type 0 where
   pub index : IndexHolds s ix
   pub known : ConditionKnown c (head_of s) qs
 
--- an accepted run with its index, one of its cuts, and a row that counts what is in transit there
-pub record Counted (s ix cut counts : List ℕ) : Type 0 where
-  pub index : IndexHolds s ix
+-- one of the run's cuts, and a row that counts what is in transit there
+pub record Counted (s cut counts : List ℕ) : Type 0 where
   pub is_cut : IsCut (run_in s) cut
   pub each : EachCounted (run_in s) (in_transit (run_in s) cut) counts
 

@@ -13,16 +13,16 @@ use lib.ListN.{length}
 use Rattle.model.specs.declared.Channel.{Channel}
 use Rattle.model.specs.declared.Message.{Message}
 use Rattle.model.specs.Run.{Run, processes, channel, IsState}
-use Rattle.model.specs.Cut.{at, waiting, add, up_to, between, in_transit}
+use Rattle.model.specs.Cut.{IsCut, waiting, add, up_to, between, in_transit}
 use Rattle.model.specs.Clause.{some_of}
 use Rattle.record.specs.Record.{head_of}
 use Rattle.states.specs.States.{channel_at}
 use Rattle.run.specs.Read.{read_of}
 use Rattle.run.specs.Said.{states_of, run_in}
+use Rattle.run.specs.Index.{IndexHolds}
 use Rattle.run.proofs.Listed.{sides, channels_are, channel_same}
 use Rattle.transit.specs.declared.Span.{Span}
-use Rattle.transit.specs.Asked.{Asked}
-use Rattle.transit.specs.Waiting.{span_of, OfChannel}
+use Rattle.transit.specs.Waiting.{span_of, SenderThere}
 use Rattle.transit.proofs.Stored.{states_few}
 
 some_add : (f : Message → Bool) (o : Option Message) (ms : List Message) → some_of f (add o ms) ≡ (some_of f (add o []) || some_of f ms)
@@ -94,30 +94,24 @@ between_few r c b k = up_to_few (waiting r c b) k
 
 -- ---- a span of a channel that is asked
 
-module _ {s ix cut : List ℕ} {c : ℕ} (w : Asked s ix cut c) {span : Span} (e : span ≡ span_of (run_in s) cut c) where
-  pub span_channel : OfChannel (run_in s) span
-  unfolding span_of
-  span_channel = rw e refl
+module _ {s ix cut : List ℕ} (holds : IndexHolds s ix) (is : IsCut (run_in s) cut) {c : ℕ} (there : c < (head_of s).channels) where
+  from_there : (channel (run_in s) c).from < processes (run_in s)
+  from_there = let read = holds.listed.read in ((sides s read).ends c (omega (arith, channels_are s read))).0
 
   -- the sender has all states up to the cut
-  pub span_sent : IsState (run_in s) span.from span.sent
+  pub span_there : SenderThere (run_in s) (span_of (run_in s) cut c)
   unfolding span_of
-  span_sent =
-      let read = w.index.listed.read in
-      rw e (w.is_cut.states _ ((sides s read).ends c (omega (arith, channels_are s read, w.there))).0)
+  span_there = let state = is.states _ from_there in record { own = refl; state = state; few = states_few holds state }
 
-  pub span_state : {k : ℕ} → 1 ≤ k → k ≤ span.sent → IsState (run_in s) span.from k
-  span_state h g = record { counted = h; there = omega (arith, span_sent.there, g) }
+module _ {r : Run} {span : Span} (w : SenderThere r span) where
+  pub span_state : {k : ℕ} → 1 ≤ k → k ≤ span.sent → IsState r span.from k
+  span_state h g = record { counted = h; there = omega (arith, w.state.there, g) }
 
-  pub span_transit : between (run_in s) span.channel span.sent span.received ≡ in_transit (run_in s) cut c
-  unfolding span_of in_transit
-  span_transit = rw e refl
+  module _ (cut : List ℕ) (c : ℕ) (e : span ≡ span_of r cut c) where
+    pub span_transit : between r span.channel span.sent span.received ≡ in_transit r cut c
+    unfolding span_of in_transit
+    span_transit = rw e refl
 
--- no more messages than the sender has states
-pub in_transit_few : {s ix cut : List ℕ} {c : ℕ} → Asked s ix cut c → length (in_transit (run_in s) cut c) ≤ 512
-unfolding between in_transit
-in_transit_few {s} {ix} {cut} {c} w =
-    let read = w.index.listed.read in
-    let from = ((sides s read).ends c (omega (arith, channels_are s read, w.there))).0 in
-    let few = up_to_few (waiting (run_in s) c (at cut (channel (run_in s) c).to)) (at cut (channel (run_in s) c).from) in
-    omega (arith, few, states_few w.index (w.is_cut.states _ from))
+    -- no more messages than the sender has states
+    pub span_few : length (in_transit r cut c) ≤ 512
+    span_few = omega (arith, ap length span_transit, between_few r span.channel span.received span.sent, w.few)

@@ -1,5 +1,5 @@
--- Room for each state of an accepted run, and its values where the index has it.
-use mathlib.Core.Path.{◌≡◌, sym, ap, ◌∙◌}
+-- Room for each state of an accepted run, and its values where its record stands.
+use mathlib.Core.Path.{◌≡◌, sym, ap, ◌∙◌, subst}
 use mathlib.Core.List.{List}
 use Prim.Native.Nat.{ℕ, ◌+◌, ◌≤◌, ◌<◌}
 use native.Mathlib.Omega.{arith}
@@ -10,9 +10,14 @@ use Rattle.record.specs.Bytes.{i32_at}
 use Rattle.record.specs.Layout.{value_count, value_place}
 use Rattle.states.specs.States.{state_at}
 use Rattle.states.proofs.Tabulate.{tabulate-at}
-use Rattle.run.specs.Said.{run_in}
-use Rattle.run.specs.Index.{place_at, IndexHolds}
-use Rattle.run.proofs.Listed.{ok, processes_are, listed_slot, listed_state, listed_whole}
+use Rattle.run.specs.Said.{run_in, place_of}
+use Rattle.run.specs.Index.{IndexHolds}
+use Rattle.run.specs.Seen.{Seen}
+use Rattle.run.proofs.Listed.{ok, processes_are, listed_slot, place_whole, state_is}
+
+-- of an accepted run with its index, as contracts see it
+pub holds_seen : {s ix : List ℕ} {v : Seen} → IndexHolds s ix → record { run = s; index = ix } ≡ v → IndexHolds v.run v.index
+holds_seen {v = v} w e = subst (λ (v : Seen). IndexHolds v.run v.index) e w
 
 module _ {s ix : List ℕ} (w : IndexHolds s ix) where
   pub processes_few : processes (run_in s) ≤ 8
@@ -23,11 +28,11 @@ module _ {s ix : List ℕ} (w : IndexHolds s ix) where
 
   module _ (p k : ℕ) (is : IsState (run_in s) p k) (v : ℕ) (h : v < value_count) where
     -- the value's four bytes are there
-    pub value_whole : get_or ix (place_at p k) 0 + value_place v + 4 ≤ length s
-    value_whole = omega (arith, listed_whole s ix w.listed p k is)
+    pub value_whole : place_of s p k + value_place v + 4 ≤ length s
+    value_whole = omega (arith, place_whole s w.listed.read p k is)
 
-    pub value_is : i32_at s (get_or ix (place_at p k) 0 + value_place v) ≡ get_or (state (run_in s) p k).values v (pos 0)
+    pub value_is : i32_at s (place_of s p k + value_place v) ≡ get_or (state (run_in s) p k).values v (pos 0)
     unfolding state_at
     value_is =
-        let q = get_or ix (place_at p k) 0 in
-        sym (ap (λ t. get_or t.values v (pos 0)) (listed_state s ix w.listed p k is) ∙ tabulate-at value_count (λ v. i32_at s (q + value_place v)) v (pos 0) h)
+        let q = place_of s p k in
+        sym (ap (λ t. get_or t.values v (pos 0)) (state_is s w.listed.read p k is) ∙ tabulate-at value_count (λ v. i32_at s (q + value_place v)) v (pos 0) h)

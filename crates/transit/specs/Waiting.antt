@@ -1,8 +1,8 @@
 -- What is in transit on a channel, as code holds it and looks for it.
-use Rattle.std.specs.Prelude.{◌≡◌, List, ℕ, Option, Some, None}
+use Rattle.std.specs.Prelude.{◌≡◌, List, ℕ, ◌≤◌, Option, Some, None}
 use Rattle.std.proofs.Math.Option as M
 use Rattle.model.specs.declared.Message.{Message}
-use Rattle.model.specs.Run.{Run, channel}
+use Rattle.model.specs.Run.{Run, channel, IsState}
 use Rattle.model.specs.Cut.{at}
 use Rattle.transit.specs.declared.Span.{Span}
 
@@ -21,3 +21,9 @@ span_of r cut c = record { channel = c; from = (channel r c).from; sent = at cut
 -- the span has its channel's sender
 abbrev pub OfChannel : Run → Span → Type 0
 OfChannel r span = span.from ≡ (channel r span.channel).from
+
+-- and all its states up to the cut, which are at most 512
+pub record SenderThere (r : Run) (span : Span) : Type 0 where
+  pub own : OfChannel r span
+  pub state : IsState r span.from span.sent
+  pub few : span.sent ≤ 512

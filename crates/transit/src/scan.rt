@@ -5,7 +5,6 @@ ghost use Rattle.model.specs.Run.{IsState};
 ghost use Rattle.model.specs.Clause.{some_of, same_z};
 ghost use Rattle.model.specs.Cut.{add, waiting, in_transit};
 ghost use Rattle.run.specs.Said.{run_in};
-ghost use Rattle.run.specs.Index.{IndexHolds};
 ghost use Rattle.transit.specs.Waiting.{inside, OfChannel};
 ghost use Rattle.transit.specs.Load.{LoadOf};
 ghost use Rattle.transit.specs.Asked.{Asked};
@@ -13,6 +12,7 @@ ghost use Rattle.transit.specs.Asked.{Asked};
 use crate::sender::{span_of, waits};
 use crate::{Load, Span};
 use model::Message;
+use run::indexed::Indexed;
 
 // The load with what one state more has in transit.
 fn load_with(load: Option<Load>, waiting: Option<Message>) -> Option<Load>
@@ -35,34 +35,34 @@ fn load_with(load: Option<Load>, waiting: Option<Message>) -> Option<Load>
 }
 
 // What is in transit on a channel at the cut, consistent or not: no load where nothing is.
-pub fn load_on(run: &[u8], index: &[u16], cut: &[u16], channel: u16) -> Option<Load>
-    requires { Asked run.now index.now cut.now channel }
-    ensures { LoadOf (in_transit (run_in run.now) cut.now channel) result
-        × (length (in_transit (run_in run.now) cut.now channel) ≤ 512) }
+pub fn load_on(run: &Indexed<'_>, cut: &[u16], channel: u16) -> Option<Load>
+    requires { Asked run.now.run cut.now channel }
+    ensures { LoadOf (in_transit (run_in run.now.run) cut.now channel) result
+        × (length (in_transit (run_in run.now.run) cut.now channel) ≤ 512) }
 {
     let span = span_of(run, cut, channel);
     let mut load = None;
     for k in 0..span.sent {
-        load = load_with(load, waits(run, index, span, k + 1));
+        load = load_with(load, waits(run, span, k + 1));
     }
     load
 }
 
 // Whether state k of the channel's sender has a message with this stamp in transit.
-fn waits_with(run: &[u8], index: &[u16], span: Span, k: u16, stamp: i32) -> bool
-    requires { IndexHolds run.now index.now × OfChannel (run_in run.now) span × IsState (run_in run.now) span.from k }
-    ensures { result ≡ some_of (λ m. same_z m.stamp stamp) (add (waiting (run_in run.now) span.channel span.received k) []) }
+fn waits_with(run: &Indexed<'_>, span: Span, k: u16, stamp: i32) -> bool
+    requires { OfChannel (run_in run.now.run) span × IsState (run_in run.now.run) span.from k }
+    ensures { result ≡ some_of (λ m. same_z m.stamp stamp) (add (waiting (run_in run.now.run) span.channel span.received k) []) }
 {
-    waits(run, index, span, k).is_some_and(|message| message.stamp == stamp)
+    waits(run, span, k).is_some_and(|message| message.stamp == stamp)
 }
 
 // Whether a message with this stamp is in transit there.
-pub fn has_stamp(run: &[u8], index: &[u16], cut: &[u16], channel: u16, stamp: i32) -> bool
-    requires { Asked run.now index.now cut.now channel }
-    ensures { result ≡ some_of (λ m. same_z m.stamp stamp) (in_transit (run_in run.now) cut.now channel) }
+pub fn has_stamp(run: &Indexed<'_>, cut: &[u16], channel: u16, stamp: i32) -> bool
+    requires { Asked run.now.run cut.now channel }
+    ensures { result ≡ some_of (λ m. same_z m.stamp stamp) (in_transit (run_in run.now.run) cut.now channel) }
 {
     let span = span_of(run, cut, channel);
-    (0..span.sent).any(|k| waits_with(run, index, span, k + 1, stamp))
+    (0..span.sent).any(|k| waits_with(run, span, k + 1, stamp))
 }
 
 pub fn count_in(load: Option<Load>) -> usize

@@ -3,14 +3,13 @@ ghost use Rattle.std.specs.Prelude.{◌≡◌, ◌<◌};
 ghost use Rattle.model.specs.Run.{IsState, sending};
 ghost use Rattle.model.specs.Cut.{IsCut, on_channel, waiting};
 ghost use Rattle.record.specs.Record.{head_of};
-ghost use Rattle.run.specs.Read.{read_of};
-ghost use Rattle.run.specs.Said.{states_of, run_in};
-ghost use Rattle.run.specs.Index.{IndexHolds};
-ghost use Rattle.transit.specs.Waiting.{as_held, span_of, OfChannel};
+ghost use Rattle.run.specs.Said.{run_in};
+ghost use Rattle.transit.specs.Waiting.{as_held, span_of, OfChannel, SenderThere};
 
 use crate::Span;
 use model::{Event, Message};
-use run::index::{event_at, partner_of};
+use run::index::partner_of;
+use run::indexed::Indexed;
 use states::held::channel_at;
 
 // The message that an event sends on the channel.
@@ -24,11 +23,12 @@ fn sent_on(channel: u16, event: Event) -> Option<Message>
 }
 
 // How far the ends of a channel are at a cut.
-pub(crate) fn span_of(run: &[u8], cut: &[u16], channel: u16) -> Span
-    requires { (read_of run.now ≡ Ok (states_of run.now)) × IsCut (run_in run.now) cut.now × (channel < (head_of run.now).channels) }
-    ensures { result ≡ span_of (run_in run.now) cut.now channel }
+pub(crate) fn span_of(run: &Indexed<'_>, cut: &[u16], channel: u16) -> Span
+    requires { IsCut (run_in run.now.run) cut.now × (channel < (head_of run.now.run).channels) }
+    ensures { (result ≡ span_of (run_in run.now.run) cut.now channel)
+        × SenderThere (run_in run.now.run) result }
 {
-    let ends = channel_at(run, channel);
+    let ends = channel_at(run.run, channel);
     Span {
         channel,
         from: ends.from,
@@ -39,13 +39,13 @@ pub(crate) fn span_of(run: &[u8], cut: &[u16], channel: u16) -> Span
 
 // What state k of the channel's sender has in transit. A send whose partner is 0 is received nowhere, and one whose partner is past the receiver's
 // state only later.
-pub(crate) fn waits(run: &[u8], index: &[u16], span: Span, k: u16) -> Option<Message>
-    requires { IndexHolds run.now index.now × OfChannel (run_in run.now) span × IsState (run_in run.now) span.from k }
-    ensures { result ≡ as_held (waiting (run_in run.now) span.channel span.received k) }
+pub(crate) fn waits(run: &Indexed<'_>, span: Span, k: u16) -> Option<Message>
+    requires { OfChannel (run_in run.now.run) span × IsState (run_in run.now.run) span.from k }
+    ensures { result ≡ as_held (waiting (run_in run.now.run) span.channel span.received k) }
 {
-    let partner = partner_of(index, span.from, k);
+    let partner = partner_of(run.index, span.from, k);
     if (partner == 0) | (span.received < partner) {
-        return sent_on(span.channel, event_at(run, index, span.from, k));
+        return sent_on(span.channel, run.event(span.from, k));
     }
     None
 }

@@ -18,7 +18,10 @@ both : {s c ix qs row lent : List ℕ} → Searching s c ix qs row lent → Both
 both r = record { run = r.accepted; cond = r.prepared.condition }
 
 pub search-outcome-requires : goal.search-outcome-requires
-search-outcome-requires c = let r = c.requires in (given r.prepared, r.ones)
+search-outcome-requires c = c.requires.ones
+
+pub invariant_of-sought : goal.invariant_of-sought
+invariant_of-sought c = given c.requires.prepared
 
 pub returns-in_default : goal.returns-in_default
 returns-in_default c =

@@ -39,7 +39,7 @@ slice_bounds-list_channels-end-2 c = sym (length-take-le _ _ (few (goal.at.slice
 pub list_channels-requires : goal.list_channels-requires
 list_channels-requires c =
     let r = c.requires in
-    record { index = r.0.index; is_cut = front_cut r.0 (cut (goal.at.list_channels-requires c).In-Found); all = ap (λ h. h.channels) r.0.head; room = r.1 }
+    record { is_cut = front_cut r.0 (cut (goal.at.list_channels-requires c).In-Found); all = ap (λ h. h.channels) r.0.head; room = r.1 }
 
 pub returns : goal.returns
 returns c =

@@ -5,6 +5,7 @@ use Rattle.run.specs.Said.{run_in}
 use Rattle.run.proofs.Listed.{channels_are}
 use Rattle.cut.specs.Listing.{WroteLowest}
 use Rattle.cut.proofs.Writing.{filled_more, filled_each, lowest_more}
+use Rattle.transit.proofs.Stored.{holds_seen}
 use Rattle.cut.proofs.listing.list_channels.Goals as goal
 
 pub loop-channel-preserved : goal.loop-channel-preserved
@@ -22,6 +23,6 @@ returns c =
     let r = c.requires in
     let i = c.loop-channel.invariant in
     let all : c.loop-channel.channel ≡ a.channels = omega (arith, c.loop-channel.auto.channel-end, c.loop-channel-test.false) in (
-      filled_each _ _ (all ∙ r.all ∙ sym (channels_are _ r.index.listed.read)) i.0,
-      subst (λ n. WroteLowest (run_in a.run.now) a.cut.now n a.stamps.now c.loop-channel.stamps) all i.1,
+      filled_each _ _ (all ∙ r.all ∙ sym (channels_are _ (holds_seen c.run.invariant c.run.view_is).listed.read)) i.0,
+      subst (λ n. WroteLowest (run_in a.run.now.run) a.cut.now n a.stamps.now c.loop-channel.stamps) all i.1,
     )

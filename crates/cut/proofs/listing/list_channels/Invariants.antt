@@ -8,4 +8,4 @@ use Rattle.cut.proofs.listing.list_channels.Given as goal
 
 abbrev pub invariant-loop-channel : goal.invariant-loop-channel
 invariant-loop-channel l =
-    Filled (λ c. length (in_transit (run_in l.run) l.cut c)) l.channel l.initial.counts l.counts × WroteLowest (run_in l.run) l.cut l.channel l.initial.stamps l.stamps
+    Filled (λ c. length (in_transit (run_in l.run.run) l.cut c)) l.channel l.initial.counts l.counts × WroteLowest (run_in l.run.run) l.cut l.channel l.initial.stamps l.stamps

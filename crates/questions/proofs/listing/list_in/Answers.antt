@@ -27,7 +27,7 @@ returns-then-counts-size c =
 pub list_channels-requires : goal.list_channels-requires
 list_channels-requires c =
     let r = c.requires in
-    record { index = r.index; is_cut = c.in_ok-given_cut.ensures _ r; all = ap (λ h. h.channels) r.head; room = room_there _ _ _ c.if-counts-size.false }
+    record { is_cut = c.in_ok-given_cut.ensures _ r; all = ap (λ h. h.channels) r.head; room = room_there _ _ _ c.if-counts-size.false }
 
 pub returns : goal.returns
 returns c =

@@ -24,7 +24,7 @@ returns-then-head-channel c =
 pub load_on-requires : goal.load_on-requires
 load_on-requires c =
     let r = c.requires in
-    record { index = r.index; is_cut = c.in_ok-given_cut.ensures _ r; there = omega (arith, c.if-head-channel.false, ap (λ h. h.channels) r.head) }
+    record { is_cut = c.in_ok-given_cut.ensures _ r; there = omega (arith, c.if-head-channel.false, ap (λ h. h.channels) r.head) }
 
 pub returns : goal.returns
 returns c =

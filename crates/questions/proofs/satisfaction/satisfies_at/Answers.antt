@@ -21,7 +21,10 @@ returns-in_err-given_cut c =
     rw (p.1, p.2, c.in_err-given_cut.ensures.0) (AskedSatisfies.not_cut r.0.accepted r.1.condition (c.in_err-given_cut.ensures.1 _ r.0))
 
 pub satisfied-requires : goal.satisfied-requires
-satisfied-requires c = let r = c.requires in (given r.1, c.in_ok-given_cut.ensures _ r.0, ap (λ h. h.channels) r.0.head)
+satisfied-requires c = let r = c.requires in (c.in_ok-given_cut.ensures _ r.0, ap (λ h. h.channels) r.0.head)
+
+pub invariant_of-sought : goal.invariant_of-sought
+invariant_of-sought c = given c.requires.1
 
 pub returns : goal.returns
 returns c =

@@ -12,7 +12,7 @@ use Rattle.search.proofs.eliminate.eliminate.Given as goal
 
 abbrev pub invariant-loop-p : goal.invariant-loop-p
 invariant-loop-p l =
-    LowestCut (run_in l.run) (clauses_of l.cond l.clauses) l.cut × CountsKept (run_in l.run) l.cut l.counts l.unsent × (length l.counts ≡ length l.initial.counts) × (length l.unsent ≡ length l.initial.unsent)
+    LowestCut (run_in l.sought.run) (clauses_of l.sought.cond l.sought.clauses) l.cut × CountsKept (run_in l.sought.run) l.cut l.counts l.unsent × (length l.counts ≡ length l.initial.counts) × (length l.unsent ≡ length l.initial.unsent)
 
 abbrev pub decreases-loop-p : goal.decreases-loop-p
 decreases-loop-p l = 4096 - total l.cut

@@ -15,6 +15,7 @@ use Rattle.record.specs.Record.{head_of}
 use Rattle.run.specs.Index.{IndexHolds}
 use Rattle.condition.specs.declared.Local.{Local}
 use Rattle.condition.specs.Known.{LocalKnown}
+use Rattle.transit.proofs.Stored.{holds_seen}
 use Rattle.search.proofs.movers.local_mover.Goals as goal
 
 in_run : {s ix : List ℕ} {l : Local} → IndexHolds s ix → LocalKnown (head_of s) l → l.process < processes (run_in s)
@@ -22,12 +23,12 @@ in_run w k = omega (arith, k.process, processes_are _ w.listed.read)
 
 pub bounds-cut-p : goal.bounds-cut-p
 bounds-cut-p c =
-    omega (arith, c.requires.1.size, in_run c.requires.0 c.requires.2)
+    omega (arith, c.requires.0.size, in_run (holds_seen c.run.invariant c.run.view_is) c.requires.1)
 
 pub local_holds-requires : goal.local_holds-requires
 local_holds-requires c =
     let r = c.requires in
-    (r.0, r.1.states _ (in_run r.0 r.2), r.2.value)
+    (r.0.states _ (in_run (holds_seen c.run.invariant c.run.view_is) r.1), r.1.value)
 
 pub returns-then-local_holds : goal.returns-then-local_holds
 returns-then-local_holds c =
@@ -37,4 +38,4 @@ returns-then-local_holds c =
 pub returns : goal.returns
 returns c =
     let constant : to_z w32 (of_z w32 c.args.clause.constant) ≡ c.args.clause.constant = search rules in
-    local-false _ _ _ _ _ _ (in_run c.requires.0 c.requires.2) (constant) (sym c.local_holds.ensures ∙ c.if-local_holds.false)
+    local-false _ _ _ _ _ _ (in_run (holds_seen c.run.invariant c.run.view_is) c.requires.1) (constant) (sym c.local_holds.ensures ∙ c.if-local_holds.false)

@@ -6,10 +6,9 @@ use Rattle.run.specs.Said.{run_in}
 use Rattle.transit.specs.Load.{LoadOf}
 use Rattle.transit.specs.Load.LoadOf.{empty}
 use Rattle.transit.specs.Waiting.{inside}
-use Rattle.transit.proofs.Between.{between_few, in_transit_few, next_between, span_channel, span_state, span_sent, span_transit}
+use Rattle.transit.proofs.Between.{between_few, next_between, span_few, span_state, span_transit}
 use Rattle.transit.proofs.Loads.{load_few}
 use Rattle.transit.proofs.Partner.{inside-held}
-use Rattle.transit.proofs.Stored.{states_few}
 use Rattle.transit.proofs.scan.load_on.Goals as goal
 
 pub loop-k-init : goal.loop-k-init
@@ -18,14 +17,13 @@ loop-k-init c = empty refl
 
 pub waits-requires : goal.waits-requires
 waits-requires c =
-    let r = c.requires in
-    let e = c.span_of-span.ensures in
-    (r.index, span_channel r e, span_state r e (omega arith) (omega (arith, c.loop-k-test.true)))
+    let there = c.span_of-span.ensures.1 in
+    (there.own, span_state there (omega arith) (omega (arith, c.loop-k-test.true)))
 
 pub load_with-load-requires : goal.load_with-load-requires
 load_with-load-requires c =
-    let few = states_few c.requires.index (span_sent c.requires c.span_of-span.ensures) in
-    load_few c.loop-k.invariant (omega (arith, few, c.loop-k-test.true, between_few (run_in c.args.run.now) c.span_of-span.result.channel c.span_of-span.result.received c.loop-k.k))
+    let few = c.span_of-span.ensures.1.few in
+    load_few c.loop-k.invariant (omega (arith, few, c.loop-k-test.true, between_few (run_in c.args.run.now.run) c.span_of-span.result.channel c.span_of-span.result.received c.loop-k.k))
 
 pub loop-k-preserved : goal.loop-k-preserved
 loop-k-preserved c =
@@ -35,7 +33,8 @@ loop-k-preserved c =
 pub returns : goal.returns
 returns c =
     let span = c.span_of-span.result in
+    let told = c.span_of-span.ensures in
     let all : c.loop-k.k ≡ span.sent = omega (arith, c.loop-k.auto.k-end, c.loop-k-test.false) in (
-      subst (λ ms. LoadOf ms c.loop-k.load) (ap (λ k. between (run_in c.args.run.now) span.channel k span.received) all ∙ span_transit c.requires c.span_of-span.ensures) c.loop-k.invariant,
-      in_transit_few c.requires,
+      subst (λ ms. LoadOf ms c.loop-k.load) (ap (λ k. between (run_in c.args.run.now.run) span.channel k span.received) all ∙ span_transit told.1 _ _ told.0) c.loop-k.invariant,
+      span_few told.1 _ _ told.0,
     )

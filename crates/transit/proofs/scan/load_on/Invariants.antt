@@ -5,4 +5,4 @@ use Rattle.transit.specs.Load.{LoadOf}
 use Rattle.transit.proofs.scan.load_on.Given as goal
 
 abbrev pub invariant-loop-k : goal.invariant-loop-k
-invariant-loop-k l = LoadOf (between (run_in l.run) l.span.channel l.k l.span.received) l.load
+invariant-loop-k l = LoadOf (between (run_in l.run.run) l.span.channel l.k l.span.received) l.load
