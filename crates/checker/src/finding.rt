@@ -17,24 +17,11 @@ use search::eliminate::search;
 use search::sought::Sought;
 
 // The cut is sought in a row of its own, so that no lent place changes unless it is found.
-fn search_in(
-    run: &[u8],
-    index: &[u16],
-    cond: &[u8],
-    clauses: &[u16],
-    cut: &mut [u16],
-    lent: &mut [u16],
-) -> Result<Outcome, Refusal>
-    requires { Searching run.now cond.now index.now clauses.now cut.old lent.old }
-    ensures { Answered run.now cond.now lent.old lent.new result }
+fn search_in(sought: &Sought<'_>, cut: &mut [u16], lent: &mut [u16]) -> Result<Outcome, Refusal>
+    requires { Searching sought.now.run sought.now.cond sought.now.index sought.now.clauses cut.old lent.old }
+    ensures { Answered sought.now.run sought.now.cond lent.old lent.new result }
 {
-    let held = Indexed { run, index };
-    let sought = Sought {
-        run: &held,
-        cond,
-        clauses,
-    };
-    let outcome = search(&sought, cut);
+    let outcome = search(sought, cut);
     let Outcome::Found = outcome else {
         return Ok(outcome);
     };
@@ -44,38 +31,37 @@ fn search_in(
 
 // 15 comes before the search.
 fn search_for(
-    run: &[u8],
-    index: &[u16],
+    run: &Indexed<'_>,
     cond: &[u8],
     clauses: &[u16],
     head: Head,
     lent: &mut [u16],
 ) -> Result<Outcome, Refusal>
-    requires { Told run.now index.now head × Prepared run.now cond.now index.now clauses.now }
-    ensures { Answered run.now cond.now lent.old lent.new result }
+    requires { Told run.now.run run.now.index head × Prepared run.now.run cond.now run.now.index clauses.now }
+    ensures { Answered run.now.run cond.now lent.old lent.new result }
 {
     let size = head.processes as usize;
     if lent.len() < size {
         return Err(refusal_of(File::Run, Reason::NoRoom, 0));
     }
     let mut row = [1u16; 8];
-    search_in(run, index, cond, clauses, &mut row[..size], lent)
+    let sought = Sought { run, cond, clauses };
+    search_in(&sought, &mut row[..size], lent)
 }
 
 // Beside an accepted run.
 fn with_condition(
-    run: &[u8],
-    index: &[u16],
+    run: &Indexed<'_>,
     cond: &[u8],
     head: Head,
     lent: &mut [u16],
 ) -> Result<Outcome, Refusal>
-    requires { Told run.now index.now head }
-    ensures { Answered run.now cond.now lent.old lent.new result }
+    requires { Told run.now.run run.now.index head }
+    ensures { Answered run.now.run cond.now lent.old lent.new result }
 {
     let mut clauses = [0u16; 32];
     let count = read_condition(cond, head, &mut clauses)?;
-    search_for(run, index, cond, &clauses[..count as usize], head, lent)
+    search_for(run, cond, &clauses[..count as usize], head, lent)
 }
 
 // The first consistent cut at which every clause holds, into the first lent places.
@@ -84,52 +70,50 @@ pub fn first_cut(run: &[u8], cond: &[u8], lent: &mut [u16]) -> Result<Outcome, R
 {
     let mut index = [0u16; INDEX_SIZE];
     let head = judge_run(run, &mut index)?;
-    with_condition(run, &index, cond, head, lent)
+    let held = Indexed { run, index: &index };
+    with_condition(&held, cond, head, lent)
 }
 
 // Beside an accepted run, where there is a place for each channel in both rows.
 fn with_channels(
-    run: &[u8],
-    index: &[u16],
+    run: &Indexed<'_>,
     cond: &[u8],
     head: Head,
     lent: &mut [u16],
     counts: &mut [u16],
     stamps: &mut [i32],
 ) -> Result<Outcome, Refusal>
-    requires { Told run.now index.now head × Room head.channels counts.old stamps.old }
-    ensures { AnsweredListed run.now cond.now lent.old lent.new
+    requires { Told run.now.run run.now.index head × Room head.channels counts.old stamps.old }
+    ensures { AnsweredListed run.now.run cond.now lent.old lent.new
         counts.old counts.new stamps.old stamps.new result }
 {
-    let outcome = with_condition(run, index, cond, head, lent)?;
+    let outcome = with_condition(run, cond, head, lent)?;
     let Outcome::Found = outcome else {
         return Ok(outcome);
     };
     let size = head.processes as usize;
-    let held = Indexed { run, index };
-    list_channels(&held, &lent[..size], head.channels, counts, stamps);
+    list_channels(run, &lent[..size], head.channels, counts, stamps);
     Ok(outcome)
 }
 
 // The same, where there may be none. With no place lent for the cut either, the answer is the condition's refusal or 15.
 fn listed_for(
-    run: &[u8],
-    index: &[u16],
+    run: &Indexed<'_>,
     cond: &[u8],
     head: Head,
     lent: &mut [u16],
     counts: &mut [u16],
     stamps: &mut [i32],
 ) -> Result<Outcome, Refusal>
-    requires { Told run.now index.now head }
-    ensures { AnsweredListed run.now cond.now lent.old lent.new
+    requires { Told run.now.run run.now.index head }
+    ensures { AnsweredListed run.now.run cond.now lent.old lent.new
         counts.old counts.new stamps.old stamps.new result }
 {
     let size = head.channels as usize;
     if (counts.len() < size) | (stamps.len() < size) {
-        return with_condition(run, index, cond, head, &mut lent[..0]);
+        return with_condition(run, cond, head, &mut lent[..0]);
     }
-    with_channels(run, index, cond, head, lent, counts, stamps)
+    with_channels(run, cond, head, lent, counts, stamps)
 }
 
 // The first cut into the first lent places, and into two rows of others how many messages are on each channel there and the lowest of their stamps,
@@ -146,5 +130,6 @@ pub fn first_cut_listed(
 {
     let mut index = [0u16; INDEX_SIZE];
     let head = judge_run(run, &mut index)?;
-    listed_for(run, &index, cond, head, lent, counts, stamps)
+    let held = Indexed { run, index: &index };
+    listed_for(&held, cond, head, lent, counts, stamps)
 }

@@ -12,23 +12,21 @@ use run::indexed::Indexed;
 
 // Of an accepted run: 16, 15, or the numbers.
 fn list_in(
-    run: &[u8],
-    index: &[u16],
+    run: &Indexed<'_>,
     cut: &[u16],
     head: Head,
     counts: &mut [u16],
     stamps: &mut [i32],
 ) -> Result<(), Refusal>
-    requires { Told run.now index.now head }
-    ensures { AskedEach run.now cut.now counts.old counts.new stamps.old stamps.new result }
+    requires { Told run.now.run run.now.index head }
+    ensures { AskedEach run.now.run cut.now counts.old counts.new stamps.old stamps.new result }
 {
-    given_cut(index, cut, head)?;
+    given_cut(run, cut, head)?;
     let size = head.channels as usize;
     if (counts.len() < size) | (stamps.len() < size) {
         return Err(refusal_of(File::Run, Reason::NoRoom, 0));
     }
-    let held = Indexed { run, index };
-    list_channels(&held, cut, head.channels, counts, stamps);
+    list_channels(run, cut, head.channels, counts, stamps);
     Ok(())
 }
 
@@ -43,5 +41,6 @@ pub fn messages_on_each(
 {
     let mut index = [0u16; INDEX_SIZE];
     let head = judge_run(run, &mut index)?;
-    list_in(run, &index, cut, head, counts, stamps)
+    let held = Indexed { run, index: &index };
+    list_in(&held, cut, head, counts, stamps)
 }

@@ -13,21 +13,19 @@ use transit::scan::load_on;
 
 // Of an accepted run: 16, 17, or what is in transit.
 fn messages_in(
-    run: &[u8],
-    index: &[u16],
+    run: &Indexed<'_>,
     cut: &[u16],
     channel: u16,
     head: Head,
 ) -> Result<Option<Load>, Refusal>
-    requires { Told run.now index.now head }
-    ensures { AskedMessages run.now cut.now channel result }
+    requires { Told run.now.run run.now.index head }
+    ensures { AskedMessages run.now.run cut.now channel result }
 {
-    given_cut(index, cut, head)?;
+    given_cut(run, cut, head)?;
     if head.channels <= channel {
         return Err(refusal_of(File::Run, Reason::NoChannel, 0));
     }
-    let held = Indexed { run, index };
-    Ok(load_on(&held, cut, channel))
+    Ok(load_on(run, cut, channel))
 }
 
 // How many messages are in transit on a channel at the cut, consistent or not, and the lowest of their stamps.
@@ -36,5 +34,6 @@ pub fn messages_on(run: &[u8], cut: &[u16], channel: u16) -> Result<Option<Load>
 {
     let mut index = [0u16; INDEX_SIZE];
     let head = judge_run(run, &mut index)?;
-    messages_in(run, &index, cut, channel, head)
+    let held = Indexed { run, index: &index };
+    messages_in(&held, cut, channel, head)
 }

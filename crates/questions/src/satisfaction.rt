@@ -14,20 +14,18 @@ use search::sought::Sought;
 
 // Of an accepted run and an accepted condition: 16, or the answer.
 fn satisfies_at(
-    run: &[u8],
-    index: &[u16],
+    run: &Indexed<'_>,
     cond: &[u8],
     clauses: &[u16],
     cut: &[u16],
     head: Head,
 ) -> Result<bool, Refusal>
-    requires { Told run.now index.now head × Prepared run.now cond.now index.now clauses.now }
-    ensures { AskedSatisfies run.now cond.now cut.now result }
+    requires { Told run.now.run run.now.index head × Prepared run.now.run cond.now run.now.index clauses.now }
+    ensures { AskedSatisfies run.now.run cond.now cut.now result }
 {
-    given_cut(index, cut, head)?;
-    let held = Indexed { run, index };
+    given_cut(run, cut, head)?;
     let sought = Sought {
-        run: &held,
+        run,
         cond,
         clauses,
     };
@@ -36,18 +34,17 @@ fn satisfies_at(
 
 // Of an accepted run: the condition's refusal, or what follows it.
 fn satisfies_in(
-    run: &[u8],
-    index: &[u16],
+    run: &Indexed<'_>,
     cond: &[u8],
     cut: &[u16],
     head: Head,
 ) -> Result<bool, Refusal>
-    requires { Told run.now index.now head }
-    ensures { AskedSatisfies run.now cond.now cut.now result }
+    requires { Told run.now.run run.now.index head }
+    ensures { AskedSatisfies run.now.run cond.now cut.now result }
 {
     let mut clauses = [0u16; 32];
     let count = read_condition(cond, head, &mut clauses)?;
-    satisfies_at(run, index, cond, &clauses[..count as usize], cut, head)
+    satisfies_at(run, cond, &clauses[..count as usize], cut, head)
 }
 
 // Whether the cut is consistent and every clause of the condition holds there.
@@ -56,5 +53,6 @@ pub fn satisfies(run: &[u8], cond: &[u8], cut: &[u16]) -> Result<bool, Refusal>
 {
     let mut index = [0u16; INDEX_SIZE];
     let head = judge_run(run, &mut index)?;
-    satisfies_in(run, &index, cond, cut, head)
+    let held = Indexed { run, index: &index };
+    satisfies_in(&held, cond, cut, head)
 }

@@ -7,6 +7,7 @@ use lib.ListN.{length, replicate, length-replicate}
 use Rattle.record.specs.declared.Head.{Head}
 use Rattle.judged.specs.Told.{Told}
 use Rattle.run.proofs.Listed.{ok, processes_are}
+use Rattle.search.proofs.Prepared.{given}
 use Rattle.checker.specs.Answered.Answered.{few}
 use Rattle.checker.proofs.Rows.{take-replicate}
 use Rattle.checker.proofs.finding.search_for.Goals as goal
@@ -26,6 +27,9 @@ slice_bounds-row-end c =
 pub slice_bounds-search_in-end : goal.slice_bounds-search_in-end
 slice_bounds-search_in-end c =
     sym (ap length (take-replicate _ 8 1 (eight c.requires.0)) ∙ length-replicate _ 1)
+
+pub invariant_of-sought : goal.invariant_of-sought
+invariant_of-sought c = given c.requires.1
 
 pub search_in-requires : goal.search_in-requires
 search_in-requires c =

@@ -10,7 +10,7 @@ use Rattle.condition.specs.Known.{clauses_for}
 use Rattle.checker.specs.Inner.{Searching}
 use Rattle.checker.specs.Answered.{Both}
 use Rattle.checker.specs.Answered.Answered.{none, found}
-use Rattle.search.proofs.Prepared.{given, searched_found, searched_none}
+use Rattle.search.proofs.Prepared.{searched_found, searched_none}
 use Rattle.checker.proofs.finding.search_in.Goals as goal
 use Rattle.checker.proofs.finding.search_in.Goals.{In-Found}
 
@@ -20,15 +20,12 @@ both r = record { run = r.accepted; cond = r.prepared.condition }
 pub search-outcome-requires : goal.search-outcome-requires
 search-outcome-requires c = c.requires.ones
 
-pub invariant_of-sought : goal.invariant_of-sought
-invariant_of-sought c = given c.requires.prepared
-
 pub returns-in_default : goal.returns-in_default
 returns-in_default c =
     let r = c.requires in
     rw c.in_default.is (none (both r) r.room (searched_none r.prepared c.search-outcome.ensures c.in_default.is) refl)
 
-first : (c : In-Found) → First (run_in c.args.run.now) (clauses_for c.args.run.now c.args.cond.now) c.search-outcome.new.cut
+first : (c : In-Found) → First (run_in c.args.sought.now.run) (clauses_for c.args.sought.now.run c.args.sought.now.cond) c.search-outcome.new.cut
 first c = searched_found c.requires.prepared c.search-outcome.ensures c.in-Found.is
 
 pub write-requires : goal.write-requires

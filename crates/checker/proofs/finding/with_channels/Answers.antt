@@ -24,7 +24,7 @@ returns-in_default c =
     let none = c.in_default.is in
     unlisted _ (λ e. never (cc)) (λ b. room_for r.0 r.1) c.in_ok-outcome.ensures refl refl
 
-cut : (c : In-Found) → CutFound c.args.run.now c.args.cond.now c.args.lent.now c.with_condition.new.lent
+cut : (c : In-Found) → CutFound c.args.run.now.run c.args.cond.now c.args.lent.now c.with_condition.new.lent
 cut c = found_cut c.in_ok-outcome.ensures (ap Ok c.in-Found.is)
 
 few : (c : In-Found) → c.args.head.processes ≤ length c.with_condition.new.lent
