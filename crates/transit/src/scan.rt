@@ -1,16 +1,15 @@
 // What the sender's states up to a cut have in transit on a channel: all of it, or whether a stamp is there.
-ghost use Rattle.std.specs.Prelude.{◌≡◌, List, [], ◌≤◌, ◌<◌, length, IfSome};
+ghost use Rattle.std.specs.Prelude.{◌≡◌, List, ◌≤◌, ◌<◌, length, IfSome};
 ghost use Rattle.model.specs.declared.Message.{Message};
-ghost use Rattle.model.specs.Run.{IsState};
 ghost use Rattle.model.specs.Clause.{some_of, same_z};
-ghost use Rattle.model.specs.Cut.{add, waiting, in_transit};
+ghost use Rattle.model.specs.Cut.{add, in_transit};
 ghost use Rattle.run.specs.Said.{run_in};
-ghost use Rattle.transit.specs.Waiting.{inside, OfChannel};
+ghost use Rattle.transit.specs.Waiting.{inside};
 ghost use Rattle.transit.specs.Load.{LoadOf};
 ghost use Rattle.transit.specs.Asked.{Asked};
 
-use crate::sender::{span_of, waits};
-use crate::{Load, Span};
+use crate::Load;
+use crate::sender::{span_of, waits, waits_with};
 use model::Message;
 use run::indexed::Indexed;
 
@@ -46,14 +45,6 @@ pub fn load_on(run: &Indexed<'_>, cut: &[u16], channel: u16) -> Option<Load>
         load = load_with(load, waits(run, span, k + 1));
     }
     load
-}
-
-// Whether state k of the channel's sender has a message with this stamp in transit.
-fn waits_with(run: &Indexed<'_>, span: Span, k: u16, stamp: i32) -> bool
-    requires { OfChannel (run_in run.now.run) span × IsState (run_in run.now.run) span.from k }
-    ensures { result ≡ some_of (λ m. same_z m.stamp stamp) (add (waiting (run_in run.now.run) span.channel span.received k) []) }
-{
-    waits(run, span, k).is_some_and(|message| message.stamp == stamp)
 }
 
 // Whether a message with this stamp is in transit there.
