@@ -8,7 +8,7 @@ ghost use Rattle.transit.specs.Waiting.{as_held, span_of, OfChannel, SenderThere
 
 use crate::Span;
 use model::{Event, Message};
-use run::index::partner_of;
+use run::index::{event_at, partner_of};
 use run::indexed::Indexed;
 use states::held::channel_at;
 
@@ -43,9 +43,12 @@ pub(crate) fn waits(run: &Indexed<'_>, span: Span, k: u16) -> Option<Message>
     requires { OfChannel (run_in run.now.run) span × IsState (run_in run.now.run) span.from k }
     ensures { result ≡ as_held (waiting (run_in run.now.run) span.channel span.received k) }
 {
-    let partner = partner_of(run.index, span.from, k);
+    // Both fields are read ahead of the test, which is in a loop: so they are read once, ahead of the loop.
+    let bytes = run.run;
+    let index = run.index;
+    let partner = partner_of(index, span.from, k);
     if (partner == 0) | (span.received < partner) {
-        return sent_on(span.channel, run.event(span.from, k));
+        return sent_on(span.channel, event_at(bytes, index, span.from, k));
     }
     None
 }
