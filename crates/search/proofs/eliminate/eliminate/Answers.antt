@@ -55,12 +55,6 @@ bounds-cut-p-in-loop-p c =
     let found = mover (goal.at.bounds-cut-p-in-loop-p c).In-Some in
     omega (arith, found.inside)
 
-pub loop-p-smaller : goal.loop-p-smaller
-loop-p-smaller c =
-    let found = mover (goal.at.loop-p-smaller c).In-Some in
-    let further : get_or c.loop-p.cut c.in-Some.p 0 < count (run_in c.args.sought.now.run) c.in-Some.p = omega (arith, c.count.ensures, ap (λ (v : SoughtSeen). count (run_in v.run) c.in-Some.p) c.sought.view_is, c.if-count-at.false) in
-    search_less (given_seen c.sought.invariant c.sought.view_is) c.loop-p.cut c.loop-p.invariant.0 _ found.there found.must further
-
 pub loop-p-preserved : goal.loop-p-preserved
 loop-p-preserved c =
     let found = mover (goal.at.loop-p-preserved c).In-Some in
@@ -70,6 +64,12 @@ loop-p-preserved c =
       c.bring_forward.auto.counts ∙ c.loop-p.invariant.2,
       c.bring_forward.auto.unsent ∙ c.loop-p.invariant.3,
     )
+
+pub loop-p-smaller : goal.loop-p-smaller
+loop-p-smaller c =
+    let found = mover (goal.at.loop-p-smaller c).In-Some in
+    let further : get_or c.loop-p.cut c.in-Some.p 0 < count (run_in c.args.sought.now.run) c.in-Some.p = omega (arith, c.count.ensures, ap (λ (v : SoughtSeen). count (run_in v.run) c.in-Some.p) c.sought.view_is, c.if-count-at.false) in
+    search_less (given_seen c.sought.invariant c.sought.view_is) c.loop-p.cut c.loop-p.invariant.0 _ found.there found.must further
 
 -- nobody is named: found
 pub returns-in_default : goal.returns-in_default
