@@ -10,7 +10,7 @@ use mir.Syntax.{w32}
 use mir.Val.{SFits}
 use Rattle.writing.specs.Text.{bytes, decimal, signed, spaced}
 use Rattle.writing.proofs.Lengths.{decimal_short, signed_short}
-use Rattle.writing.proofs.Lines.{lines_to, lines_first, lines_short}
+use Rattle.writing.proofs.Rows.{lines_to, lines_first, lines_short}
 use Rattle.writing.proofs.Reading.{number_same, signed_same}
 use Rattle.answers.specs.Lines.{stamp_word, channel_line, channel_lines, count_line}
 

@@ -13,27 +13,27 @@ use channels::{channel_lines, count_line};
 use record::{File, Refusal};
 use search::Outcome;
 use transit::Load;
-use writing::{pair_line, row_lines, text};
+use writing::Lines;
 
 #[tactic(auto, unfolding(crate::specs::Lines::refused_line, crate::specs::Lines::refused_word, writing::specs::Text::bytes))]
-fn refused(refusal: Refusal, buffer: &mut [u8]) -> usize
-    ensures { Put (refused_line refusal) 0 result buffer.old buffer.new }
+fn refused(refusal: Refusal, lines: &mut Lines)
+    ensures { Put (refused_line refusal) lines.old lines.new }
 {
     let number = u16::from(refusal.reason) as usize;
     let place = refusal.place;
     let file = refusal.file;
     match file {
-        File::Run => pair_line(b"refused run", number, place, 0, buffer),
-        File::Condition => pair_line(b"refused cond", number, place, 0, buffer),
+        File::Run => lines.pair_line(b"refused run", number, place),
+        File::Condition => lines.pair_line(b"refused cond", number, place),
     }
 }
 
-fn found(cut: &[u16], counts: &[u16], stamps: &[i32], buffer: &mut [u8]) -> usize
-    ensures { Put (found_lines cut.now counts.now stamps.now) 0 result buffer.old buffer.new }
+fn found(cut: &[u16], counts: &[u16], stamps: &[i32], lines: &mut Lines)
+    ensures { Put (found_lines cut.now counts.now stamps.now) lines.old lines.new }
 {
-    let states = text(b"found\n", 0, buffer);
-    let channels = row_lines(b"state", cut, states, buffer);
-    channel_lines(counts, stamps, channels, buffer)
+    lines.text(b"found\n");
+    lines.row_lines(b"state", cut);
+    channel_lines(counts, stamps, lines);
 }
 
 #[tactic(auto, unfolding(crate::specs::Lines::answer_lines, writing::specs::Text::bytes))]
@@ -42,50 +42,52 @@ fn put_answer(
     cut: &[u16],
     counts: &[u16],
     stamps: &[i32],
-    buffer: &mut [u8],
-) -> usize
-    ensures { Put (answer_lines answer cut.now counts.now stamps.now) 0 result buffer.old buffer.new }
+    lines: &mut Lines,
+)
+    ensures { Put (answer_lines answer cut.now counts.now stamps.now) lines.old lines.new }
 {
     match answer {
-        Ok(Outcome::Found) => found(cut, counts, stamps, buffer),
-        Ok(Outcome::NoCut) => text(b"none\n", 0, buffer),
-        Err(refusal) => refused(refusal, buffer),
+        Ok(Outcome::Found) => found(cut, counts, stamps, lines),
+        Ok(Outcome::NoCut) => lines.text(b"none\n"),
+        Err(refusal) => refused(refusal, lines),
     }
 }
 
 #[tactic(auto, unfolding(crate::specs::Lines::verdict_lines, writing::specs::Text::bytes))]
-fn put_verdict(verdict: Result<bool, Refusal>, buffer: &mut [u8]) -> usize
-    ensures { Put (verdict_lines verdict) 0 result buffer.old buffer.new }
+fn put_verdict(verdict: Result<bool, Refusal>, lines: &mut Lines)
+    ensures { Put (verdict_lines verdict) lines.old lines.new }
 {
     match verdict {
-        Ok(true) => text(b"yes\n", 0, buffer),
-        Ok(false) => text(b"no\n", 0, buffer),
-        Err(refusal) => refused(refusal, buffer),
+        Ok(true) => lines.text(b"yes\n"),
+        Ok(false) => lines.text(b"no\n"),
+        Err(refusal) => refused(refusal, lines),
     }
 }
 
 #[tactic(auto, unfolding(crate::specs::Lines::count_lines, writing::specs::Text::bytes))]
-fn put_count(count: Result<Option<Load>, Refusal>, buffer: &mut [u8]) -> usize
-    ensures { Put (count_lines count) 0 result buffer.old buffer.new }
+fn put_count(count: Result<Option<Load>, Refusal>, lines: &mut Lines)
+    ensures { Put (count_lines count) lines.old lines.new }
 {
     match count {
-        Ok(None) => text(b"empty\n", 0, buffer),
-        Ok(Some(load)) => count_line(load.count, load.lowest, buffer),
-        Err(refusal) => refused(refusal, buffer),
+        Ok(None) => lines.text(b"empty\n"),
+        Ok(Some(load)) => count_line(load.count, load.lowest, lines),
+        Err(refusal) => refused(refusal, lines),
     }
 }
 
 // The lines that a call puts: how many bytes they have at the front of the buffer, or none where it is too short and as it was.
-fn made<F: Fn(&mut [u8]) -> usize>(put: F, buffer: &mut [u8]) -> Option<usize>
+fn made<F: Fn(&mut Lines)>(put: F, buffer: &mut [u8]) -> Option<usize>
     requires { F.IsAlwaysCallable put }
-    ensures { (lines : List ℕ) → ((b : _) (n : _) (b' : _) → F.post put b n b' → Put lines 0 n b.now b'.now) → MadeOf lines buffer.old buffer.new result }
+    ensures { (bytes : List ℕ) → ((l : _) (u : _) (l' : _) → F.post put l u l' → Put bytes l.now l'.now) → MadeOf bytes buffer.old buffer.new result }
 {
     let mut nowhere = [0u8; 0];
-    let n = put(&mut nowhere);
+    let mut lines = Lines::new(&mut nowhere);
+    put(&mut lines);
+    let n = lines.end();
     if buffer.len() < n {
         return None;
     }
-    put(buffer);
+    put(&mut Lines::new(buffer));
     Some(n)
 }
 

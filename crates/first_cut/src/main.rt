@@ -3,10 +3,9 @@
 
 ghost use Rattle.std.specs.Prelude.{◌≤◌, length, IfSome};
 
+use files::words::print_made;
 use files::{read_file, read_word};
-use record::Refusal;
 use record::reading::head_of;
-use search::Outcome;
 use std::env::FillError;
 use std::io;
 use std::rt::{Env, Files};
@@ -37,21 +36,6 @@ fn text(rt: &impl Print, words: &[u8]) -> io::Result<()> {
     rt.write_all(words)
 }
 
-// The lines go out in one write, so that no reader sees half an answer. 1,024 bytes are always enough (`theorems/proofs/Enough.antt`).
-fn print(
-    rt: &impl Print,
-    answer: Result<Outcome, Refusal>,
-    cut: &[u16],
-    counts: &[u16],
-    stamps: &[i32],
-) -> io::Result<()> {
-    let mut lines = [0u8; 1024];
-    let Some(n) = answers::answer(answer, cut, counts, stamps, &mut lines) else {
-        return Ok(());
-    };
-    text(rt, &lines[..n])
-}
-
 fn judge(rt: &impl Print, run: &[u8], cond: &[u8]) -> io::Result<()> {
     let mut places = [0u16; 8];
     let mut counts = [0u16; 16];
@@ -66,7 +50,10 @@ fn judge(rt: &impl Print, run: &[u8], cond: &[u8]) -> io::Result<()> {
     let head = head_of(run);
     let n = answers::filled(head.processes, &places);
     let m = answers::filled(head.channels, &counts);
-    print(rt, answer, &places[..n], &counts[..m], &stamps)
+    print_made(
+        rt,
+        |lines| answers::answer(answer, &places[..n], &counts[..m], &stamps, lines),
+    )
 }
 
 // One byte more than a file may have, so that a longer one is seen to be too long.

@@ -1,8 +1,8 @@
 // A refusal in words, with the bytes of the refused record.
 use files::words::Hex;
 use reader::shown::refused_bytes;
+use record::Refusal;
 use record::reasons::Reason;
-use record::{File, Refusal};
 use std::{fmt, io};
 
 // What is wrong.
@@ -38,12 +38,13 @@ impl fmt::Display for Words {
 
 // Of a file that is a run or a condition.
 pub fn show<'a>(rt: &impl Print, bytes: &'a [u8], refusal: Refusal) -> io::Result<()> {
-    let Refusal { reason, place, .. } = refusal;
+    let Refusal {
+        file,
+        reason,
+        place,
+        ..
+    } = refusal;
     let number = u16::from(reason);
-    let file = match refusal.file {
-        File::Run => "run",
-        File::Condition => "cond",
-    };
     println!(rt; "{place} refused {file} {number} {}", Words(reason))?;
     println!(rt;
         "{place} bytes {}",

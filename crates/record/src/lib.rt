@@ -8,12 +8,22 @@ pub mod reading;
 pub mod reasons;
 
 use crate::reasons::Reason;
+use std::fmt;
 
 // The file at fault.
 #[derive(Clone, Copy)]
 pub enum File {
     Run,
     Condition,
+}
+
+impl fmt::Display for File {
+    fn fmt<W: fmt::Write>(&self, f: &mut fmt::Formatter<W>) -> fmt::Result {
+        f.write_str(match self {
+            File::Run => "run",
+            File::Condition => "cond",
+        })
+    }
 }
 
 // Which file, why, the byte place of the record, and whether that record stands after the end.

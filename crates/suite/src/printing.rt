@@ -1,24 +1,10 @@
 // What the suite prints: the lines of an answer, each answer in one write, and rows of numbers.
-use files::words::Numbers;
+use files::words::{Numbers, print_made};
 use record::Refusal;
 use record::reading::head_of;
 use search::Outcome;
 use std::io;
 use transit::Load;
-
-// The lines that are made, in one write. 1,024 bytes are always enough (`theorems/proofs/Enough.antt`).
-fn print_made<Make: FnOnce(&mut [u8]) -> Option<usize>>(
-    rt: &impl Print,
-    make: Make,
-) -> io::Result<()>
-    requires { Make.IsAlwaysCallable make }
-{
-    let mut lines = [0u8; 1024];
-    let Some(length) = make(&mut lines) else {
-        return Ok(());
-    };
-    rt.write_all(lines.get(..length).unwrap_or_default())
-}
 
 pub fn print_answer(
     rt: &impl Print,

@@ -1,6 +1,5 @@
 // The bytes shown for the answer of the search, with the part that they are.
 use files::words::Hex;
-use record::File;
 use std::io;
 
 // Where the part stands and how long it is, and then its bytes: an empty part has a file and a place too.
@@ -12,10 +11,6 @@ pub fn answer<'a>(
 ) -> io::Result<()> {
     let answer = checker::finding::first_cut(run, cond, places);
     let part = checker::showing::shown_part(run, cond, answer);
-    let file = match part.file {
-        File::Run => "run",
-        File::Condition => "cond",
-    };
     let bytes = Hex(checker::showing::shown(run, cond, answer));
-    println!(rt; "shown {file} {} {} {bytes}", part.place, part.count)
+    println!(rt; "shown {} {} {} {bytes}", part.file, part.place, part.count)
 }

@@ -12,7 +12,7 @@ use lib.ListN.{length, get_or, length-append}
 use mir.Syntax.{w32}
 use mir.Val.{SFits}
 use Rattle.writing.specs.Text.{bytes, digits, decimal, signed, spaced, pair_line, row_lines}
-use Rattle.writing.proofs.Lines.{lines_short, row_line_at, row-lines}
+use Rattle.writing.proofs.Rows.{lines_short, row_line_at, row-lines}
 
 digits_short : (f k n : ℕ) → n < 10 ^ suc k → length (digits f n) ≤ suc k
 unfolding digits

@@ -1,5 +1,5 @@
 pub mod Decimal
-pub mod Lines
+pub mod Rows
 pub mod Putting
 pub mod Reading
 pub mod Lengths

@@ -10,7 +10,8 @@ use lib.ListN.{length, take, drop, set, length-append, length-set, length-take}
 use lib.Seq.{drop-drop, set_out, sets, sets-eq, length-sets}
 use Rattle.model.proofs.Lists.{le_or_lt}
 use Rattle.writing.specs.Stored.{Put, last}
-use Rattle.writing.proofs.Lines.{lines_to}
+use Rattle.writing.specs.declared.Lines.{Lines}
+use Rattle.writing.proofs.Rows.{lines_to}
 
 sets_out : (b : List ℕ) (at : ℕ) (x : List ℕ) → length b ≤ at → sets b at x ≡ b
 sets_out b at [] h = refl
@@ -37,7 +38,7 @@ sets_cut b at zero (a ∷ x) h = sets_out b at (a ∷ x) (omega arith)
 sets_cut b at (suc n) (a ∷ x) h = sets_cut (set b at a) (suc at) n x (omega (arith, length-set b at a))
 
 -- what fits is copied
-sets-copy : (b : List ℕ) (at start k : ℕ) (x y : List ℕ) → start ≡ min at (length b) → k ≡ min (length x) (length b - start) → y ≡ take k x
+pub sets-copy : (b : List ℕ) (at start k : ℕ) (x y : List ℕ) → start ≡ min at (length b) → k ≡ min (length x) (length b - start) → y ≡ take k x
     → sets b at x ≡ put_mid start k b y
 sets-copy b at start k x y s m e =
     let long : length y ≡ k = ap length e ∙ length-take k x ∙ omega arith in
@@ -45,36 +46,40 @@ sets-copy b at start k x y s m e =
     sym first ∙ sets_cut b start k x (omega arith) ∙ ap (sets b start) (sym e) ∙ sets-eq y b start (omega arith) ∙ append_assoc (take start b) y (drop (start + length y) b)
     ∙ ap (λ l. take start b ++ (y ++ l)) (ap (λ n. drop (start + n) b) long ∙ sym (drop-drop k start b))
 
-pub put_none : {b : List ℕ} {at : ℕ} → length b < last → at ≤ last → Put [] at at b b
-put_none h g = record { short = h; end = omega arith; stored = refl }
+pub put_none : (l : Lines) → length l.buffer.now < last → Put [] l l
+put_none l h = record { same_reference = refl; short = h; end = omega (arith, l.within); stored = refl }
 
-pub put_copied : {b b' x y : List ℕ} {at start k next : ℕ} → length b < last → start ≡ min at (length b) → k ≡ min (length x) (length b - start) → y ≡ take k x
-    → next ≡ min (at + length x) last → b' ≡ put_mid start k b y → Put x at next b b'
-put_copied {b} {x = x} {y} {at} {start} {k} h s m e p w = record { short = h; end = p; stored = w ∙ sym (sets-copy b at start k x y s m e) }
-
-pub put_then : {x y b b₁ b₂ : List ℕ} {at middle next : ℕ} → Put x at middle b b₁ → Put y middle next b₁ b₂ → Put (x ++ y) at next b b₂
-put_then {x} {y} {b} {b₁} {b₂} {at} {middle} {next} p q = record {
+pub put_then : {x y : List ℕ} {l l₁ l₂ : Lines} → Put x l l₁ → Put y l₁ l₂ → Put (x ++ y) l l₂
+put_then {x} {y} {l} {l₁} {l₂} p q = record {
+  same_reference = q.same_reference ∙ p.same_reference;
   short = p.short;
   end = let e = length-append x y in omega (arith, p.end, q.end);
   stored = q.stored
-      ∙ ap (λ (k : ℕ). sets b₁ k y) p.end
-      ∙ sets_stopped b₁ (at + length x) last y (omega (arith, q.short))
-      ∙ ap (λ (l : List ℕ). sets l (at + length x) y) p.stored
-      ∙ sym (sets_append b at x y);
+      ∙ ap (λ (k : ℕ). sets l₁.buffer.now k y) p.end
+      ∙ sets_stopped l₁.buffer.now (l.at + length x) last y (omega (arith, q.short))
+      ∙ ap (λ (s : List ℕ). sets s (l.at + length x) y) p.stored
+      ∙ sym (sets_append l.buffer.now l.at x y);
 }
 
--- what is put and where determine the place after it and the buffer
-pub put_same : {x b b₁ b₂ : List ℕ} {at n m : ℕ} → Put x at n b b₁ → Put x at m b b₂ → (n ≡ m) × (b₁ ≡ b₂)
+pub put_as : {x y : List ℕ} {l l' : Lines} → Put x l l' → x ≡ y → Put y l l'
+put_as p e = rw e at p
+
+-- of one lent buffer there is one with nothing put
+pub new_same : {s : List ℕ} (l l' : Lines) → l.at ≡ 0 → l.buffer.now ≡ s → l'.at ≡ 0 → l'.buffer.now ≡ s → (l.at ≡ l'.at) × (l.buffer.now ≡ l'.buffer.now)
+new_same l l' front bytes front' bytes' = (front ∙ sym front', bytes ∙ sym bytes')
+
+-- what is put and after what determine the place after it and the buffer
+pub put_same : {x : List ℕ} {l l₁ l₂ : Lines} → Put x l l₁ → Put x l l₂ → (l₁.at ≡ l₂.at) × (l₁.buffer.now ≡ l₂.buffer.now)
 put_same p q = (p.end ∙ sym q.end, p.stored ∙ sym q.stored)
 
-pub put_long : {x b b₁ : List ℕ} {at next : ℕ} → Put x at next b b₁ → length b₁ ≡ length b
-put_long {x} {b} {at = at} p = rw p.stored (length-sets b at x)
+pub put_long : {x : List ℕ} {l l' : Lines} → Put x l l' → length l'.buffer.now ≡ length l.buffer.now
+put_long {x} {l} p = rw p.stored (length-sets l.buffer.now l.at x)
 
 -- ---- line by line
 
-module _ (line : ℕ → List ℕ) {b b₁ : List ℕ} {i at middle : ℕ} (p : Put (lines_to line i) at middle b b₁) where
-  pub lines_next : {b₂ : List ℕ} {next : ℕ} → Put (line i) middle next b₁ b₂ → Put (lines_to line (i + 1)) at next b b₂
+module _ (line : ℕ → List ℕ) {l l₁ : Lines} {i : ℕ} (p : Put (lines_to line i) l l₁) where
+  pub lines_next : {l₂ : Lines} → Put (line i) l₁ l₂ → Put (lines_to line (i + 1)) l l₂
   lines_next q = rw add-one (put_then p q)
 
-  pub lines_all : {k : ℕ} {whole : List ℕ} → i ≡ k → lines_to line k ≡ whole → Put whole at middle b b₁
+  pub lines_all : {k : ℕ} {whole : List ℕ} → i ≡ k → lines_to line k ≡ whole → Put whole l l₁
   lines_all e all = rw (ap (lines_to line) e ∙ all) at p

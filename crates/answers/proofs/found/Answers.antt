@@ -6,4 +6,4 @@ use Rattle.answers.proofs.found.Goals as goal
 
 pub returns : goal.returns
 unfolding found_lines bytes
-returns c = put_then (put_then c.text-states.ensures c.row_lines-channels.ensures) c.channel_lines.ensures
+returns c = put_then (put_then c.text.ensures c.row_lines.ensures) c.channel_lines.ensures

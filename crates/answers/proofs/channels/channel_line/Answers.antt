@@ -8,5 +8,5 @@ use Rattle.answers.proofs.channels.channel_line.Goals as goal
 pub returns : goal.returns
 unfolding channel_line bytes
 returns c =
-    let counted = put_then (put_then c.text-number.ensures c.spaced-messages.ensures) c.spaced-space.ensures in
-    put_then (put_then (put_then counted c.text-lowest.ensures) (rw (to_z-of_z c.ranges.stamp) at c.stamp_word-end.ensures)) c.text.ensures
+    let counted = put_then (put_then c.text.ensures c.spaced.ensures) c.spaced-2.ensures in
+    put_then (put_then (put_then counted c.text-2.ensures) (rw (to_z-of_z c.ranges.stamp) at c.stamp_word.ensures)) c.text-3.ensures

@@ -9,7 +9,7 @@ use lib.ListN.{length, length-drop}
 use mir.Facts.{to_z-of_z}
 use mir.Syntax.{w32}
 use mir.Val.{SFits}
-use Rattle.writing.proofs.Putting.{put_none, put_long, lines_next, lines_all}
+use Rattle.writing.proofs.Putting.{put_none, lines_next, lines_all}
 use Rattle.answers.proofs.ChannelLines.{channel_line_at, channel-lines}
 use Rattle.answers.proofs.Fronts.{front_at}
 use Rattle.answers.proofs.channels.channel_lines.Goals as goal
@@ -23,7 +23,7 @@ loop-i-init c =
       counts = rw (none, pairs, c.zip.ensures.first) c.iter.ensures.rest;
       stamps = rw none (search rules);
       within = rw none (zero-le, zero-le);
-      put = rw none (put_none (omega arith) (omega arith));
+      put = rw none (put_none _ (omega arith));
     }
 
 pub loop-i-preserved : goal.loop-i-preserved
@@ -38,11 +38,8 @@ loop-i-preserved c =
       counts = rw next counts_left;
       stamps = rw next stamps_left;
       within = (omega (arith, next, h), omega (arith, next, g));
-      put = rw next (lines_next (channel_line_at a.counts.now a.stamps.now) w.put (rw (to_z-of_z fits, number, count, stamp) at c.channel_line-next.ensures));
+      put = rw next (lines_next (channel_line_at a.counts.now a.stamps.now) w.put (rw (to_z-of_z fits, number, count, stamp) at c.channel_line.ensures));
     }
-
-pub shape_of-buffer : goal.shape_of-buffer
-shape_of-buffer c = put_long c.loop-i.invariant.put
 
 pub returns : goal.returns
 returns c =

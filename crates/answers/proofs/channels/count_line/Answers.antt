@@ -8,5 +8,5 @@ use Rattle.answers.proofs.channels.count_line.Goals as goal
 pub returns : goal.returns
 unfolding count_line bytes
 returns c =
-    let spaced = put_then (put_then c.text-number.ensures c.spaced-space.ensures) c.text-lowest.ensures in
-    put_then (put_then spaced (rw (to_z-of_z c.ranges.stamp) at c.signed-end.ensures)) c.text.ensures
+    let spaced = put_then (put_then c.text.ensures c.spaced.ensures) c.text-2.ensures in
+    put_then (put_then spaced (rw (to_z-of_z c.ranges.stamp) at c.signed.ensures)) c.text-3.ensures

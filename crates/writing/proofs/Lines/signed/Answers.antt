@@ -1,14 +1,13 @@
 -- `signed` meets its contract: a number below 0 is a minus and its size, any other its size.
-use Rattle.std.proofs.Common.{List, ◌≡◌, ℕ, ℤ, pos, negsuc, true, false, ◌∷◌, FitsSigned, w32, to_z, of_z, refl, ap, ◌∙◌, arith}
+use Rattle.std.proofs.Common.{◌≡◌, ℕ, ℤ, pos, negsuc, true, false, ◌∷◌, FitsSigned, w32, to_z, of_z, refl, ap, ◌∙◌, arith}
 use Rattle.std.proofs.Math.IntN.{nat_abs}
 use borrow.Author.Tests.{ltb-true}
 use lib.Signed.{lt_z}
 use mir.Facts.{to_z-of_z}
-use Rattle.writing.specs.Stored.{Put}
 use Rattle.writing.specs.Text.{bytes, decimal, signed}
-use Rattle.writing.proofs.Putting.{put_then}
-use Rattle.writing.proofs.signed.Goals as goal
-use Rattle.writing.proofs.signed.Goals.{then-x-lt0, else-x-lt0}
+use Rattle.writing.proofs.Putting.{put_then, put_as}
+use Rattle.writing.proofs.Lines.signed.Goals as goal
+use Rattle.writing.proofs.Lines.signed.Goals.{then-x-lt0, else-x-lt0}
 
 below : (z : ℤ) → lt_z z (pos 0) ≡ true → 45 ∷ decimal (nat_abs z) ≡ signed z
 unfolding signed bytes
@@ -28,12 +27,9 @@ module _ (x : ℤ) (fits : FitsSigned w32 x) {n : ℕ} (size : n ≡ nat_abs (to
   positive : lt_z (to_z w32 (of_z w32 x)) (pos 0) ≡ false → decimal n ≡ signed x
   positive h = rw size (above (to_z w32 (of_z w32 x)) h) ∙ ap signed (to_z-of_z fits)
 
-put_as : {x y b b' : List ℕ} {at next : ℕ} → Put x at next b b' → x ≡ y → Put y at next b b'
-put_as p e = rw e at p
-
 pub returns : goal.returns
 returns c =
-    let put = put_then c.text-next.ensures c.number.ensures in
+    let put = put_then c.text.ensures c.number.ensures in
     let size = c.unsigned_abs.ensures.value in
     elim c.if-x-lt0.branch [
       | then-x-lt0 w ↦ put_as put (rw w.sign-is (negative c.args.x c.ranges.x size w.if-x-lt0.true))

@@ -1,7 +1,7 @@
 use Rattle.writing.specs.Text.{bytes, spaced}
 use Rattle.writing.proofs.Putting.{put_then}
-use Rattle.writing.proofs.spaced.Goals as goal
+use Rattle.writing.proofs.Lines.spaced.Goals as goal
 
 pub returns : goal.returns
 unfolding spaced bytes
-returns c = put_then c.text-next.ensures c.number.ensures
+returns c = put_then c.text.ensures c.number.ensures

@@ -1,8 +1,0 @@
--- `number` meets its contract: the digits are those that `io::decimal` makes.
-use mathlib.Core.Path.{◌∙◌}
-use Rattle.writing.proofs.Decimal.{decimal_made}
-use Rattle.writing.proofs.number.Goals as goal
-
-pub returns : goal.returns
-returns c =
-    rw (c.decimal-k.ensures.digits ∙ decimal_made c.decimal-k.ensures.len) at c.text.ensures

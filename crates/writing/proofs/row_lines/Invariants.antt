@@ -1,7 +1,0 @@
--- `row_lines` meets its contract. The invariant of its loop: the lines of the first i numbers are put.
-use Rattle.writing.specs.Stored.{Put}
-use Rattle.writing.proofs.Lines.{lines_to, row_line_at}
-use Rattle.writing.proofs.row_lines.Given as goal
-
-abbrev pub invariant-loop-i : goal.invariant-loop-i
-invariant-loop-i l = Put (lines_to (row_line_at l.word l.row) l.i) l.at l.next l.initial.buffer l.buffer
