@@ -24,21 +24,12 @@ fn satisfies_at(
     ensures { AskedSatisfies run.now.run cond.now cut.now result }
 {
     given_cut(run, cut, head)?;
-    let sought = Sought {
-        run,
-        cond,
-        clauses,
-    };
+    let sought = Sought { run, cond, clauses };
     Ok(satisfied(&sought, cut, head.channels))
 }
 
 // Of an accepted run: the condition's refusal, or what follows it.
-fn satisfies_in(
-    run: &Indexed<'_>,
-    cond: &[u8],
-    cut: &[u16],
-    head: Head,
-) -> Result<bool, Refusal>
+fn satisfies_in(run: &Indexed<'_>, cond: &[u8], cut: &[u16], head: Head) -> Result<bool, Refusal>
     requires { Told run.now.run run.now.index head }
     ensures { AskedSatisfies run.now.run cond.now cut.now result }
 {

@@ -1,5 +1,4 @@
 // Whom one clause names at a cut: nobody where it holds, else who has to move.
-ghost use Rattle.std.specs.Prelude.{◌≡◌};
 ghost use Rattle.model.specs.Cut.{IsCut};
 ghost use Rattle.record.specs.Record.{head_of};
 ghost use Rattle.run.specs.Said.{run_in};

@@ -43,7 +43,8 @@ pub(crate) fn span_of(run: &Indexed<'_>, cut: &[u16], channel: u16) -> Span
 // the receiver's state only later.
 fn is_on_its_way(run: &Indexed<'_>, span: Span, k: u16) -> bool
     requires { OfChannel (run_in run.now.run) span × IsState (run_in run.now.run) span.from k }
-    ensures { waiting (run_in run.now.run) span.channel span.received k ≡ cond result (on_channel span.channel (sending (into (run_in run.now.run) span.from k))) none }
+    ensures { waiting (run_in run.now.run) span.channel span.received k
+        ≡ cond result (on_channel span.channel (sending (into (run_in run.now.run) span.from k))) none }
 {
     let partner = partner_of(run.index, span.from, k);
     (partner == 0) | (span.received < partner)

@@ -12,9 +12,11 @@ is_cut-requires c = testable (as_inside c.run.view_is c.requires)
 
 pub returns-then-not-is_cut : goal.returns-then-not-is_cut
 returns-then-not-is_cut c =
-    let r = as_inside c.run.view_is c.requires in
-    (c.refusal_of.ensures, subst (λ v. ¬ IsCut (run_in v.run) c.args.cut.now) c.run.view_is
-    (λ k. let e = sym c.if-not-is_cut.true ∙ (c.is_cut.ensures _ r.index.listed (ap (λ h. h.processes) r.head)).1 k in never (cc)))
+    let r = as_inside c.run.view_is c.requires in (
+      c.refusal_of.ensures,
+      subst (λ v. ¬ IsCut (run_in v.run) c.args.cut.now) c.run.view_is
+          (λ k. let e = sym c.if-not-is_cut.true ∙ (c.is_cut.ensures _ r.index.listed (ap (λ h. h.processes) r.head)).1 k in never (cc)),
+    )
 
 pub returns : goal.returns
 returns c =

@@ -2,10 +2,9 @@
 use mathlib.Core.Path.{◌≡◌, refl, ap, ◌∙◌}
 use mathlib.Core.Bool.{Bool, true, false, cond, ◌||◌}
 use Rattle.std.proofs.Common.{rules}
-use Rattle.std.proofs.Math.Option.{Option, none}
+use Rattle.std.proofs.Math.Option.{none}
 use lib.Dec.{eqb, ltb}
 use lib.ListN.{get_or}
-use Rattle.model.specs.declared.Message.{Message}
 use Rattle.model.specs.Run.{IsState, into, sending}
 use Rattle.model.specs.Cut.{on_channel, waiting}
 use Rattle.run.specs.Said.{run_in}
