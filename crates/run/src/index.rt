@@ -24,7 +24,7 @@ pub fn place_of(index: &[u16], p: u16, k: u16) -> usize
     requires { (length index.now ≡ index_size) × HasSlot p k }
     ensures { result ≡ get_or index.now (place_at p k) 0 }
 {
-    let entry = 8 + (512 * (p as usize) + (k - 1) as usize);
+    let entry = 8 + (512 * (p as usize) + (k as usize - 1));
     index[entry] as usize
 }
 
@@ -33,7 +33,7 @@ pub fn partner_of(index: &[u16], p: u16, k: u16) -> u16
     requires { (length index.now ≡ index_size) × HasSlot p k }
     ensures { result ≡ get_or index.now (partner_at p k) 0 }
 {
-    let entry = 4104 + (512 * (p as usize) + (k - 1) as usize);
+    let entry = 4104 + (512 * (p as usize) + (k as usize - 1));
     index[entry]
 }
 
@@ -42,7 +42,7 @@ pub fn clock_at(index: &[u16], p: u16, k: u16, i: u16) -> u16
     requires { (length index.now ≡ index_size) × HasSlot p k × (i < 8) }
     ensures { result ≡ clock_in index.now p k i }
 {
-    let entry = 8200 + 8 * (512 * (p as usize) + (k - 1) as usize) + i as usize;
+    let entry = 8200 + 8 * (512 * (p as usize) + (k as usize - 1)) + i as usize;
     index[entry]
 }
 
@@ -51,7 +51,7 @@ pub fn clock_of<'a>(index: &'a [u16], p: u16, k: u16) -> &'a [u16]
     requires { (length index.now ≡ index_size) × HasSlot p k }
     ensures { result.now ≡ take 8 (drop (clock_row p k) index.now) }
 {
-    let entry = 8200 + 8 * (512 * (p as usize) + (k - 1) as usize);
+    let entry = 8200 + 8 * (512 * (p as usize) + (k as usize - 1));
     &index[entry..entry + 8]
 }
 
@@ -81,7 +81,7 @@ pub fn enter_partner(index: &mut [u16], p: u16, k: u16, partner: u16)
     requires { (length index.old ≡ index_size) × HasSlot p k }
     ensures { index.new ≡ set index.old (partner_at p k) partner }
 {
-    let entry = 4104 + (512 * (p as usize) + (k - 1) as usize);
+    let entry = 4104 + (512 * (p as usize) + (k as usize - 1));
     index[entry] = partner;
 }
 
@@ -90,6 +90,6 @@ pub fn enter_clock(index: &mut [u16], p: u16, k: u16, i: u16, number: u16)
     requires { (length index.old ≡ index_size) × HasSlot p k × (i < 8) }
     ensures { index.new ≡ set index.old (clock_row p k + i) number }
 {
-    let entry = 8200 + 8 * (512 * (p as usize) + (k - 1) as usize) + i as usize;
+    let entry = 8200 + 8 * (512 * (p as usize) + (k as usize - 1)) + i as usize;
     index[entry] = number;
 }

@@ -64,8 +64,8 @@ put_then {x} {y} {l} {l₁} {l₂} p q = record {
 pub put_as : {x y : List ℕ} {l l' : Lines} → Put x l l' → x ≡ y → Put y l l'
 put_as p e = rw e at p
 
--- of one lent buffer there is one with nothing put
-pub new_same : {s : List ℕ} (l l' : Lines) → l.at ≡ 0 → l.buffer.now ≡ s → l'.at ≡ 0 → l'.buffer.now ≡ s → (l.at ≡ l'.at) × (l.buffer.now ≡ l'.buffer.now)
+-- of one lent buffer there is one with nothing put, and one with the bytes up to a place
+pub new_same : {s : List ℕ} {at : ℕ} (l l' : Lines) → l.at ≡ at → l.buffer.now ≡ s → l'.at ≡ at → l'.buffer.now ≡ s → (l.at ≡ l'.at) × (l.buffer.now ≡ l'.buffer.now)
 new_same l l' front bytes front' bytes' = (front ∙ sym front', bytes ∙ sym bytes')
 
 -- what is put and after what determine the place after it and the buffer

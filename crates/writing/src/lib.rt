@@ -15,12 +15,21 @@ pub struct Lines<'a> {
 impl<'a> Lines<'a> {
     ghost use Rattle.writing.specs.Stored.{Put};
 
+    // Where the bytes up to a place are put already.
+    pub fn behind(buffer: &'a mut [u8], at: usize) -> Lines<'a>
+        ensures same_reference { result.buffer.ghost_name ≡ buffer.entry.ghost_name }
+        ensures place { result.at ≡ at }
+        ensures bytes { result.buffer.now ≡ buffer.old }
+    {
+        Lines { buffer, at }
+    }
+
     pub fn new(buffer: &'a mut [u8]) -> Lines<'a>
         ensures same_reference { result.buffer.ghost_name ≡ buffer.entry.ghost_name }
         ensures front { result.at ≡ 0 }
         ensures bytes { result.buffer.now ≡ buffer.old }
     {
-        Lines { buffer, at: 0 }
+        Lines::behind(buffer, 0)
     }
 
     // How many bytes are put, or would be where the buffer reached as far.
