@@ -6,50 +6,63 @@ use condition::{Clause, Item, Test};
 use record::Head;
 use std::{fmt, io, iter};
 
-// A comparison by its number.
+// What a number is called, else the number itself behind what it is of.
 #[derive(Drop)]
-struct Comparison(u16);
+struct Named<'a> {
+    words: Option<&'a str>,
+    of: &'a str,
+    number: u16,
+}
 
-impl fmt::Display for Comparison {
+impl fmt::Display for Named<'_> {
     fn fmt<W: fmt::Write>(&self, f: &mut fmt::Formatter<W>) -> fmt::Result {
-        let words = match self.0 {
-            1 => "equal",
-            2 => "other than",
-            3 => "at most",
-            4 => "at least",
-            number => return write!(f, "comparison {number}"),
-        };
-        f.write_str(words)
+        match self.words {
+            Some(words) => f.write_str(words),
+            None => write!(f, "{} {}", self.of, self.number),
+        }
     }
 }
 
-// A test by its number.
-#[derive(Drop)]
-struct Kind(u16);
+fn comparison(number: u16) -> Named<'static> {
+    let words = match number {
+        1 => Some("equal"),
+        2 => Some("other than"),
+        3 => Some("at most"),
+        4 => Some("at least"),
+        _ => None,
+    };
+    Named {
+        words,
+        of: "comparison",
+        number,
+    }
+}
 
-impl fmt::Display for Kind {
-    fn fmt<W: fmt::Write>(&self, f: &mut fmt::Formatter<W>) -> fmt::Result {
-        let words = match self.0 {
-            1 => "count at most",
-            2 => "count at least",
-            3 => "count exactly",
-            4 => "some stamp equals",
-            5 => "no stamp equals",
-            6 => "every stamp at least",
-            7 => "some stamp at most",
-            8 => "count odd",
-            9 => "count other than",
-            number => return write!(f, "test {number}"),
-        };
-        f.write_str(words)
+fn test(number: u16) -> Named<'static> {
+    let words = match number {
+        1 => Some("count at most"),
+        2 => Some("count at least"),
+        3 => Some("count exactly"),
+        4 => Some("some stamp equals"),
+        5 => Some("no stamp equals"),
+        6 => Some("every stamp at least"),
+        7 => Some("some stamp at most"),
+        8 => Some("count odd"),
+        9 => Some("count other than"),
+        _ => None,
+    };
+    Named {
+        words,
+        of: "test",
+        number,
     }
 }
 
 // A stamp is signed, a count isn't.
-fn operand(test: Test) -> i64 {
-    match test.test {
-        4..=7 => i64::from(test.operand.cast_signed()),
-        _ => i64::from(test.operand),
+fn operand(clause: Test) -> i64 {
+    match clause.test {
+        4..=7 => i64::from(clause.operand.cast_signed()),
+        _ => i64::from(clause.operand),
     }
 }
 
@@ -63,12 +76,12 @@ impl fmt::Display for Words {
             Item::Head(clauses) => write!(f, "condition clauses {clauses}"),
             Item::Clause(Clause::Local(local)) => {
                 let (process, value) = (local.process, local.value);
-                let (comparison, constant) = (Comparison(local.comparison), local.constant);
+                let (comparison, constant) = (comparison(local.comparison), local.constant);
                 write!(f, "process {process} value {value} {comparison} {constant}")
             }
-            Item::Clause(Clause::Channel(test)) => {
-                let (kind, operand) = (Kind(test.test), operand(test));
-                write!(f, "channel {} {kind} {operand}", test.channel)
+            Item::Clause(Clause::Channel(clause)) => {
+                let (test, operand) = (test(clause.test), operand(clause));
+                write!(f, "channel {} {test} {operand}", clause.channel)
             }
             Item::End => f.write_str("end"),
         }

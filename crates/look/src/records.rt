@@ -57,7 +57,8 @@ impl fmt::Display for Event {
     }
 }
 
-// The values of a state's record.
+// The values of a state's record. `Clock` differs in the size of a number alone: one function would take how a number is read as a closure over
+// an array, and a bound `Fn` may not name the array's size.
 #[derive(Drop)]
 struct Values<'a>(&'a [u8]);
 
