@@ -4,13 +4,13 @@ use mathlib.Core.Bool.{Bool, true, false, cond}
 use mathlib.Core.List.{List}
 use Prim.Native.Nat.{ℕ, zero, suc, ◌+◌, ◌≤◌, ◌<◌}
 use native.Mathlib.Omega.{arith}
-use borrow.Author.Tests.{ltb-false}
+use borrow.Author.Tests.{lt-ltb, ltb-false}
 use lib.Dec.{ltb}
 use lib.ListN.{length}
 use Rattle.model.proofs.Numbers.{never}
 use Rattle.std.proofs.Common.{Result, Ok, Err}
 use Rattle.std.specs.Prelude.{⊤}
-use Rattle.record.specs.Refusal.{Check, passed, refusal, and_then}
+use Rattle.record.specs.Refusal.{Check, passed, refuse_if, refusal, and_then}
 use Rattle.record.specs.declared.reasons.Reason.{Reason}
 use Rattle.record.specs.declared.reasons.Reason.TheVariants.{TooLong, WrongKind}
 use Rattle.record.specs.declared.File.{File}
@@ -56,9 +56,13 @@ module _ {Item Known : Type 0} (p : Pass Item Known) where
 
   -- ---- the length of the file
 
-  pub read_long : (x : Refusal) → check_length p.file p.bytes ≡ Err x → read_file p ≡ Err x
+  pub read_long : 65535 < length p.bytes → read_file p ≡ Err (refusal p.file TooLong 0)
+  unfolding read_file check_length refuse_if
+  read_long h = simp (lt-ltb _ _ h)
+
+  pub read_refused : (x : Refusal) → check_length p.file p.bytes ≡ Err x → read_file p ≡ Err x
   unfolding read_file
-  read_long x e = ap (λ t. and_then t (λ u. read_records p)) e
+  read_refused x e = ap (λ t. and_then t (λ u. read_records p)) e
 
   pub read_short : check_length p.file p.bytes ≡ Ok tt → read_file p ≡ read_records p
   unfolding read_file
@@ -139,5 +143,5 @@ module _ {Item Known : Type 0} (p : Pass Item Known) where
     accepted_holds w qs e = go (check_length p.file p.bytes) refl
       where
         go : (t : Result ⊤ Refusal) → check_length p.file p.bytes ≡ t → (length p.bytes ≤ 65535) × P qs
-        go (Err x) t = let y = sym (read_long x t) ∙ e in never (cc (y))
+        go (Err x) t = let y = sym (read_refused x t) ∙ e in never (cc (y))
         go (Ok u) t = (length_ok _ _ t, from_here (suc (length p.bytes)) 0 p.start w qs (sym (read_short t) ∙ e))

@@ -7,7 +7,7 @@ use mathlib.Core.List.Memᴰ
 use mathlib.Core.List.{List, [], ◌∷◌, ◌++◌, Memᴰ}
 use Prim.Native.Nat.{ℕ, zero, suc, ◌+◌, ◌≤◌, ◌<◌}
 use native.Mathlib.Omega.{arith}
-use borrow.Author.Tests.{le-ltb}
+use borrow.Author.Tests.{le-ltb, ltb-true, ltb-false}
 use lib.Dec.{T, eqb, eqb→eq, ltb}
 use lib.IntN.{ℤ}
 use lib.ListN.{length}
@@ -46,11 +46,11 @@ use Rattle.checker.specs.Answered.{Answered, AnsweredListed}
 use Rattle.checker.specs.Answered.Answered.{run_refused, cond_refused, few, none, found}
 use Rattle.transit.specs.declared.Load.{Load}
 use Rattle.questions.specs.Questions.{AskedConsistent, AskedMessages, AskedEach, AskedSatisfies}
-use Rattle.theorems.specs.Refusals.{RefusalOf, run_numbers, condition_numbers, Gives}
+use Rattle.theorems.specs.Refusals.{RefusalOf, Over, run_numbers, condition_numbers, Gives}
 use Rattle.theorems.proofs.Determined.{refused_once}
 use Rattle.theorems.proofs.Demands.{condition_refused_next, not_linear_refused}
 use Rattle.theorems.proofs.Chains.Only.{because}
-use Rattle.theorems.proofs.Chains.{Only, refuse, step, condition_step, record_judged, item_judged}
+use Rattle.theorems.proofs.Chains.{Only, step, condition_step, record_judged, item_judged}
 
 -- ---- a condition that isn't linear
 
@@ -111,7 +111,7 @@ module _ (f : File) (ns : List ℕ) (kind : Among ns WrongKind) where
       go true e = let same : record { file = f; reason = WrongKind; place = next; after = true } ≡ x = cc in subst (RefusalOf f ns) same (refusal_of f WrongKind next true kind)
       go false e = never (cc)
 
-module _ {Item Known : Type 0} (p : Pass Item Known) (ns : List ℕ) (long : Among ns TooLong) (kind : Among ns WrongKind)
+module _ {Item Known : Type 0} (p : Pass Item Known) (ns : List ℕ) (kind : Among ns WrongKind)
     (stopped : (at : ℕ) (k : Known) (x : Refusal) → p.step at k ≡ Err x → RefusalOf p.file ns x)
     (judged : (at : ℕ) (k : Known) (r : Item) → Only (Among ns) (p.judge at k r))
     (on : (at next : ℕ) (k : Known) (r : Item) → p.step at k ≡ Ok (r, next) → (at < next) × (next ≤ length p.bytes))
@@ -143,13 +143,31 @@ module _ {Item Known : Type 0} (p : Pass Item Known) (ns : List ℕ) (long : Amo
     from_here zero {at} {k} h here = goes_on here (λ r next g w. let l = on at next k r g in absurd (omega (arith, h, l.0, l.1)))
     from_here (suc m) {at} {k} h here = goes_on here (λ r next g w. let l = on at next k r g in from_here m (omega (arith, h, l.0)) w)
 
-  file_refused : read_file p ≡ Err x → Right x
-  unfolding check_length
-  file_refused e = by_length (check_length p.file p.bytes) refl
+  -- the file is too long, or one of its records is refused so
+  file_refused : read_file p ≡ Err x → Over p.file p.bytes x ⊎ Right x
+  file_refused e = by_length (ltb 65535 (length p.bytes)) refl
     where
-      by_length : (t : Result ⊤ Refusal) → check_length p.file p.bytes ≡ t → Right x
-      by_length (Err y) g = subst Right (refused_once (read_long p y g) e) (fault_of p.file ns 0 _ y (refuse (Among ns) (ltb 65535 (length p.bytes)) long) g)
-      by_length (Ok u) g = from_here (sym (read_short p g) ∙ e) (length p.bytes) (omega arith) (here_start p)
+      by_length : (t : Bool) → ltb 65535 (length p.bytes) ≡ t → Over p.file p.bytes x ⊎ Right x
+      by_length true g = let h = ltb-true _ _ g in inl (h, refused_once e (read_long p h))
+      by_length false g =
+          inr (from_here (sym (read_short p (length_passed p.file p.bytes (ltb-false _ _ g))) ∙ e) (length p.bytes) (omega arith) (here_start p))
+
+-- the numbers that records are refused with: those of the file but for 1
+abbrev of_records : List ℕ → List ℕ
+of_records [] = []
+of_records (n ∷ ns) = ns
+
+file_numbered : (f : File) (ns s : List ℕ) {x : Refusal} → Over f s x ⊎ RefusalOf f ns x → RefusalOf f (1 ∷ ns) x
+file_numbered f ns s (inl (h, e)) = subst (RefusalOf f (1 ∷ ns)) (sym e) (refusal_of f TooLong 0 false (Memᴰ.head refl))
+file_numbered f ns s (inr w) = record { number = Memᴰ.tail w.number; file = w.file }
+
+other_than : (m : ℕ) {n : ℕ} {ns : List ℕ} → T (every_of (λ n. not (eqb n m)) ns) → Memᴰ n ns → T (not (eqb n m))
+other_than m t i = every_mem (λ n. not (eqb n m)) t i
+
+-- where no record is refused with 1, the file is too long
+only_long : (f : File) (ns s : List ℕ) {x : Refusal} → T (every_of (λ n. not (eqb n 1)) ns) → Over f s x ⊎ RefusalOf f ns x → x.reason ≡ TooLong → Over f s x
+only_long f ns s t (inl v) e = v
+only_long f ns s t (inr w) e = absurd (subst (λ r. T (not (eqb (number r) 1))) e (other_than 1 t w.number))
 
 -- of a run that the pass refuses
 stopped_at : {A : Type 0} (f : File) (ns : List ℕ) (at : ℕ) (check : Check) (item : A) (x : Refusal) → Only (Among ns) check
@@ -161,11 +179,11 @@ step_refused : (ns : List ℕ) (s : List ℕ) (at : ℕ) (x : Refusal) → Only 
 unfolding step_at
 step_refused ns s at x w e = stopped_at Run ns at (check_step s at) _ x w e
 
-pass_refused : (s : List ℕ) (x : Refusal) → R.read_of s ≡ Err x → RefusalOf Run run_numbers x
+pass_refused : (s : List ℕ) (x : Refusal) → R.read_of s ≡ Err x → Over Run s x ⊎ RefusalOf Run (of_records run_numbers) x
 unfolding R.read_of
 pass_refused s x e =
-    let ns = run_numbers in
-    file_refused (R.run_pass s) ns (in_list ns tt) (in_list ns tt)
+    let ns = of_records run_numbers in
+    file_refused (R.run_pass s) ns (in_list ns tt)
     (λ at k y g. step_refused ns s at y (step (Among ns) s at (in_list ns tt) (in_list ns tt) (in_list ns tt) (in_list ns tt)) g)
     (λ at k r. record_judged (Among ns) s (R.counts_of s k) at r (in_list ns tt) (in_list ns tt) (in_list ns tt) (in_list ns tt) (in_list ns tt))
     (λ at next k r g. let d = record_stepped s at next r g in (d.further, d.within)) x e
@@ -178,7 +196,7 @@ run_refusal {s} {x} j = go j refl
     as_refused {y} w e = let same : y ≡ x = cc in subst (RefusalOf Run run_numbers) same w
 
     go : {r : Result Head Refusal} → Judged s r → r ≡ Err x → RefusalOf Run run_numbers x
-    go (by_pass y d) e = as_refused (pass_refused s y d) e
+    go (by_pass y d) e = as_refused (file_numbered Run _ s (pass_refused s y d)) e
     go (by_pairing at d w) e = as_refused (refusal_of Run Pairing at false (in_list run_numbers tt)) e
     go (by_circle at d n w) e = as_refused (refusal_of Run Circle at false (in_list run_numbers tt)) e
     go (by_clock at d n m w) e = as_refused (refusal_of Run Clock at false (in_list run_numbers tt)) e
@@ -189,14 +207,40 @@ item_refused : (ns c : List ℕ) (at owed : ℕ) (x : Refusal) → Only (Among n
 unfolding E.step_at
 item_refused ns c at owed x w e = stopped_at Condition ns at (E.check_step c at owed) _ x w e
 
-pub condition_refusal : (c : List ℕ) (h : Head) (x : Refusal) → D.read_of c h ≡ Err x → RefusalOf Condition condition_numbers x
+condition_pass_refused : (c : List ℕ) (h : Head) (x : Refusal) → D.read_of c h ≡ Err x → Over Condition c x ⊎ RefusalOf Condition (of_records condition_numbers) x
 unfolding D.read_of
-condition_refusal c h x e =
-    let ns = condition_numbers in
-    file_refused (D.condition_pass c h) ns (in_list ns tt) (in_list ns tt)
+condition_pass_refused c h x e =
+    let ns = of_records condition_numbers in
+    file_refused (D.condition_pass c h) ns (in_list ns tt)
     (λ at k y g. item_refused ns c at k.0 y (condition_step (Among ns) c at k.0 (in_list ns tt) (in_list ns tt) (in_list ns tt)) g)
     (λ at k r. item_judged (Among ns) h r (in_list ns tt) (in_list ns tt) (in_list ns tt) (in_list ns tt))
     (λ at next k r g. let d = item_stepped c at k.0 next r g in (d.further, d.within)) x e
+
+pub condition_refusal : (c : List ℕ) (h : Head) (x : Refusal) → D.read_of c h ≡ Err x → RefusalOf Condition condition_numbers x
+condition_refusal c h x e = file_numbered Condition _ c (condition_pass_refused c h x e)
+
+-- ---- 1 is said of a file that is too long, and of no other: a pass never runs out of records to look at
+
+pub run_long : {s : List ℕ} {x : Refusal} → Judged s (Err x) → x.reason ≡ TooLong → Over Run s x
+run_long {s} {x} j l = go j refl
+  where
+    go : {r : Result Head Refusal} → Judged s r → r ≡ Err x → Over Run s x
+    go (by_pass y d) e = let same : y ≡ x = cc in only_long Run (of_records run_numbers) s tt (pass_refused s x (rw same at d)) l
+    go (by_pairing at d w) e = let same : refusal Run Pairing at ≡ x = cc in let no = ap Refusal.reason same ∙ l in never (cc (no))
+    go (by_circle at d n w) e = let same : refusal Run Circle at ≡ x = cc in let no = ap Refusal.reason same ∙ l in never (cc (no))
+    go (by_clock at d n m w) e = let same : refusal Run Clock at ≡ x = cc in let no = ap Refusal.reason same ∙ l in never (cc (no))
+    go (wholly d n m o) e = never (cc)
+
+pub condition_long : (c : List ℕ) (h : Head) (x : Refusal) → D.read_of c h ≡ Err x → x.reason ≡ TooLong → Over Condition c x
+condition_long c h x e l = only_long Condition (of_records condition_numbers) c tt (condition_pass_refused c h x e) l
+
+-- and so it is of the search's answer
+pub answer_long : {s c lent lent' : List ℕ} {a : Result Outcome Refusal} (x : Refusal) → Answered s c lent lent' a → a ≡ Err x → x.reason ≡ TooLong → Over Run s x ⊎ Over Condition c x
+answer_long x (run_refused y j d) e l = let same : y ≡ x = cc in inl (run_long (rw same at j) l)
+answer_long x (cond_refused y j d r) e l = let same : y ≡ x = cc in inr (condition_long _ _ x (rw same at d) l)
+answer_long x (few b h d) e l = let same : refusal Run NoRoom 0 ≡ x = cc in let no = ap Refusal.reason same ∙ l in never (cc (no))
+answer_long x (none b h n d) e l = never (cc)
+answer_long x (found b h cut f w) e l = never (cc)
 
 -- ---- which numbers each public call can give
 
@@ -269,7 +313,7 @@ step_gives s at {x} e =
 
 -- "No refusal has number 0": and so no answer has
 pub answer_numbered : {s c lent lent' : List ℕ} {a : Result Outcome Refusal} (x : Refusal) → Answered s c lent lent' a → a ≡ Err x → number x.reason ≡ 0 → ⊥
-answer_numbered x w e z = ⊎_elim (λ v. other_than_0 tt v.number) (λ v. other_than_0 tt v.number) (search_gives x w e)
+answer_numbered x w e z = ⊎_elim (λ v. not_0 (other_than 0 tt v.number)) (λ v. not_0 (other_than 0 tt v.number)) (search_gives x w e)
   where
-    other_than_0 : {ns : List ℕ} → T (every_of (λ n. not (eqb n 0)) ns) → Memᴰ (number x.reason) ns → ⊥
-    other_than_0 t i = subst (λ n. T (not (eqb n 0))) z (every_mem (λ n. not (eqb n 0)) t i)
+    not_0 : T (not (eqb (number x.reason) 0)) → ⊥
+    not_0 t = subst (λ n. T (not (eqb n 0))) z t

@@ -1,15 +1,20 @@
 -- Which numbers the refusals of a run have, which those of a condition, and what a call can give.
-use Rattle.std.specs.Prelude.{◌≡◌, ◌⊎◌, ℕ}
+use Rattle.std.specs.Prelude.{◌≡◌, ◌⊎◌, ◌<◌, ℕ, length}
 use mathlib.Core.List.{List, [], ◌∷◌, Memᴰ}
 use Rattle.record.specs.declared.File.{File}
 use Rattle.record.specs.declared.File.TheVariants.{Run, Condition}
 use Rattle.record.specs.declared.Refusal.{Refusal}
-use Rattle.record.specs.Refusal.{number}
+use Rattle.record.specs.Refusal.{number, refusal}
+use Rattle.record.specs.declared.reasons.Reason.TheVariants.{TooLong}
 
 -- a refusal that says this file and has one of these numbers
 pub record RefusalOf (f : File) (numbers : List ℕ) (x : Refusal) : Type 0 where
   pub number : Memᴰ (number x.reason) numbers
   pub file : x.file ≡ f
+
+-- a file that is too long is refused as such, at its front
+abbrev pub Over : File → List ℕ → Refusal → Type 0
+Over f s x = (65535 < length s) × (x ≡ refusal f TooLong 0)
 
 abbrev pub run_numbers : List ℕ
 run_numbers = 1 ∷ 2 ∷ 3 ∷ 4 ∷ 5 ∷ 6 ∷ 7 ∷ 8 ∷ 9 ∷ 10 ∷ 11 ∷ 12 ∷ 13 ∷ []
