@@ -68,9 +68,13 @@ put_as p e = rw e at p
 pub new_same : {s : List ℕ} {at : ℕ} (l l' : Lines) → l.at ≡ at → l.buffer.now ≡ s → l'.at ≡ at → l'.buffer.now ≡ s → (l.at ≡ l'.at) × (l.buffer.now ≡ l'.buffer.now)
 new_same l l' front bytes front' bytes' = (front ∙ sym front', bytes ∙ sym bytes')
 
--- what is put and after what determine the place after it and the buffer
-pub put_same : {x : List ℕ} {l l₁ l₂ : Lines} → Put x l l₁ → Put x l l₂ → (l₁.at ≡ l₂.at) × (l₁.buffer.now ≡ l₂.buffer.now)
-put_same p q = (p.end ∙ sym q.end, p.stored ∙ sym q.stored)
+-- what is put, the place and the bytes of the buffer determine the place after it and the bytes then
+pub put_same : {x : List ℕ} {l m l₁ m₁ : Lines} → l.at ≡ m.at → l.buffer.now ≡ m.buffer.now → Put x l l₁ → Put x m m₁
+    → (l₁.at ≡ m₁.at) × (l₁.buffer.now ≡ m₁.buffer.now)
+put_same {x} {l} {m} place bytes p q = (
+  p.end ∙ ap (λ at. min (at + length x) last) place ∙ sym q.end,
+  p.stored ∙ ap (λ at. sets l.buffer.now at x) place ∙ ap (λ b. sets b m.at x) bytes ∙ sym q.stored,
+)
 
 pub put_long : {x : List ℕ} {l l' : Lines} → Put x l l' → length l'.buffer.now ≡ length l.buffer.now
 put_long {x} {l} p = rw p.stored (length-sets l.buffer.now l.at x)
