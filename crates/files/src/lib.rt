@@ -3,7 +3,7 @@
 
 pub mod words;
 
-ghost use Rattle.std.specs.Prelude.{◌≤◌, length, IfOk, IfSome};
+ghost use Rattle.std.specs.Prelude.{◌≡◌, ◌≤◌, length, Some, None, IfOk, IfSome, OnErr};
 
 use std::io::{Cursor, Error, ErrorKind, Read, Write};
 use std::rt::{Env, Files};
@@ -58,6 +58,20 @@ fn tell(errors: &impl Print, name: &[u8], error: Error) -> io::Result<()> {
     println!(errors; ": {reason}")
 }
 
+// Standard error has the name and the reason where a file can't be read.
+fn told(errors: &impl Print, name: &[u8], got: io::Result<usize>) -> Option<usize>
+    ensures ok { IfOk got (λ n. result ≡ Some n) }
+    ensures err { OnErr got (result ≡ None) }
+{
+    match got {
+        Ok(n) => Some(n),
+        Err(error) => {
+            let _ = tell(errors, name, error);
+            None
+        }
+    }
+}
+
 // How many bytes of the file of this name there are in the buffer, as far as they fit. Where the file can't be read, standard error says why.
 pub fn read_file(
     files: &impl Files,
@@ -67,13 +81,7 @@ pub fn read_file(
 ) -> Option<usize>
     ensures { IfSome result (λ n. n ≤ length buffer.old) }
 {
-    match read_path(files, name, buffer) {
-        Ok(n) => Some(n),
-        Err(error) => {
-            let _ = tell(errors, name, error);
-            None
-        }
-    }
+    told(errors, name, read_path(files, name, buffer))
 }
 
 // The file that the command line names at this place. A word that is longer than a path can be comes as an empty one, which no file has.
