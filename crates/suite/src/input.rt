@@ -3,6 +3,8 @@
 // A case is, little-endian: the question (1 byte), the lent places, or for all channels those of the counts (1) and of the stamps (1), or the channel or the
 // byte place asked (2), the number of cut numbers (2), the length of the run (4), the length of the condition (4), then the cut numbers (2 each), the run,
 // the condition.
+ghost use Rattle.std.specs.Prelude.{◌≡◌, ◌≤◌, length, IfOk};
+
 use files::fill;
 use std::io::Read;
 
@@ -28,7 +30,9 @@ pub struct Room {
 pub struct Short;
 
 // Reads n bytes to the front of the buffer.
-fn read_part<'a>(input: &mut impl Read, buffer: &'a mut [u8], n: usize) -> Result<&'a [u8], Short> {
+fn read_part<'a>(input: &mut impl Read, buffer: &'a mut [u8], n: usize) -> Result<&'a [u8], Short>
+    ensures { IfOk result (λ part. (length part.now ≡ n) × (n ≤ length buffer.old)) }
+{
     let part = buffer.get_mut(..n).ok_or(Short)?;
     let (came, _) = fill(input, part);
     if came < n {
@@ -38,11 +42,9 @@ fn read_part<'a>(input: &mut impl Read, buffer: &'a mut [u8], n: usize) -> Resul
 }
 
 // Reads n numbers to the front of the row, two bytes each.
-fn read_numbers<'a>(
-    input: &mut impl Read,
-    row: &'a mut [u16],
-    n: usize,
-) -> Result<&'a [u16], Short> {
+fn read_numbers<'a>(input: &mut impl Read, row: &'a mut [u16], n: usize) -> Result<&'a [u16], Short>
+    ensures { IfOk result (λ part. (length part.now ≡ n) × (n ≤ length row.old)) }
+{
     let mut bytes = [0u8; 48];
     let numbers = row.get_mut(..n).ok_or(Short)?;
     let (pairs, _) = read_part(input, &mut bytes, 2 * n)?.as_chunks();
