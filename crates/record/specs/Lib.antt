@@ -1,6 +1,7 @@
 pub mod Bytes
 pub mod Refusal
 pub mod Kind
+pub mod Reason
 pub mod Layout
 pub mod Record
 pub mod Pass

@@ -7,6 +7,9 @@ pub mod layout;
 pub mod reading;
 pub mod reasons;
 
+ghost use Rattle.std.specs.Prelude.{Some};
+ghost use Rattle.record.specs.Reason.{file_word};
+
 use crate::reasons::Reason;
 use std::fmt;
 
@@ -18,6 +21,8 @@ pub enum File {
 }
 
 impl fmt::Display for File {
+    ghost output = { λ file. Some (file_word file) };
+
     fn fmt<W: fmt::Write>(&self, f: &mut fmt::Formatter<W>) -> fmt::Result {
         f.write_str(match self {
             File::Run => "run",

@@ -1,6 +1,7 @@
 // The refusals by name. specs/Refusal.antt ties each name to the paper's number.
 ghost use Rattle.std.specs.Prelude.{◌≡◌};
 ghost use Rattle.record.specs.Refusal.{number, refuse_if, refusal, at_fault};
+ghost use Rattle.record.specs.Reason.{NamesReason};
 
 use crate::{File, Refusal};
 
@@ -49,6 +50,36 @@ impl From<Reason> for u16 {
             Reason::NoRoom => 15,
             Reason::WrongCut => 16,
             Reason::NoChannel => 17,
+        }
+    }
+}
+
+// By the paper's number. 0 and the numbers from 18 on are no refusal's, and are handed back.
+impl TryFrom<u16> for Reason {
+    type Error = u16;
+
+    ghost try_from_gives = { NamesReason };
+
+    fn try_from(number: u16) -> Result<Reason, u16> {
+        match number {
+            1 => Ok(Reason::TooLong),
+            2 => Ok(Reason::CutShort),
+            3 => Ok(Reason::WrongLength),
+            4 => Ok(Reason::WrongKind),
+            5 => Ok(Reason::Limit),
+            6 => Ok(Reason::Format),
+            7 => Ok(Reason::Name),
+            8 => Ok(Reason::Field),
+            9 => Ok(Reason::Start),
+            10 => Ok(Reason::Side),
+            11 => Ok(Reason::Pairing),
+            12 => Ok(Reason::Circle),
+            13 => Ok(Reason::Clock),
+            14 => Ok(Reason::NotLinear),
+            15 => Ok(Reason::NoRoom),
+            16 => Ok(Reason::WrongCut),
+            17 => Ok(Reason::NoChannel),
+            _ => Err(number),
         }
     }
 }
