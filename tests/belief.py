@@ -13,6 +13,8 @@ DOCUMENT = "docs/PROOF.md"
 SECTION = "## What has to be believed\n"
 INNER = "\nInner words:"
 LISTED = re.compile(r"`(crates/[\w-]+/specs/[\w-]+\.antt)`")
+# A type of src/ that a file of specs/ speaks of: its crate, and the module it stands in, none for lib.rt.
+TYPE = re.compile(r"(?m)^use Rattle\.(\w+)\.specs\.declared\.(?:([a-z_]+)\.)?[A-Z]")
 
 
 class Belief:
@@ -67,12 +69,28 @@ def listed_files(root: Path) -> tuple[set[str], set[str]]:
     return set(LISTED.findall(believed)), set(LISTED.findall(inner))
 
 
+def unlisted_types(belief: Belief, believed: set[str]) -> list[str]:
+    """The files of types that believed definitions speak of, and that the document doesn't tell to believe: it tells so
+    of the lib.rt of each crate that has a believed file, and of the files that it names."""
+    text = (belief.root / DOCUMENT).read_text("utf-8")
+    told = text.partition(SECTION)[2].partition(INNER)[0]
+    crates = {path.split("/")[1] for path in believed}
+    spoken: set[str] = set()
+    for path in believed:
+        for crate, module in TYPE.findall((belief.root / path).read_text("utf-8")):
+            if module or crate not in crates:
+                spoken.add(f"crates/{crate}/src/{module or 'lib'}.rt")
+    return [f"{path} isn't told" for path in sorted(spoken) if f"`{path}`" not in told]
+
+
 def checks(belief: Belief) -> Iterator[Check]:
     for module in belief.specs.scopes:
         yield Check(f"{module.path}, believed or inner as a whole", parted(*belief.words(module)))
     found, listed = belief.files(), listed_files(belief.root)
     yield listing("the files to be believed", found[0], listed[0])
     yield listing("the files of inner words", found[1], listed[1])
+    wrong = unlisted_types(belief, found[0])
+    yield Check(f"the types of the files to be believed are where {DOCUMENT} tells", wrong)
 
 
 def parted(believed: list[Word], inner: list[Word]) -> list[str]:

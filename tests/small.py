@@ -98,6 +98,7 @@ pub fn large<'a>(a: u16, b: Pair<u8, Kind>, c: [u8; 2], d: (u8, u8), e: u16, f: 
 
 BOUNDS, TABLES = "crates/words/specs/Bounds.antt", "crates/words/specs/Tables.antt"
 ANSWERED, CALLS = "crates/checker/specs/Answered.antt", "crates/checker/src/lib.rt"
+TYPES = "crates/words/src/sizes.rt"
 DOCUMENT = "docs/PROOF.md"
 
 ALL_LISTED = Small(
@@ -109,6 +110,7 @@ ALL_LISTED = Small(
         ANSWERED: """\
 use Rattle.std.specs.Prelude.{ℕ, ◌≤◌}
 use Rattle.words.specs.Bounds.{limit}
+use Rattle.words.specs.declared.sizes.Size.{Size}
 
 pub data Answered (n : ℕ) : ℕ → Type 0 where
   few : n ≤ limit → Answered n n
@@ -136,7 +138,7 @@ pub fn answer(n: u16) -> u16
 
 ## What has to be believed
 
-- `{BOUNDS}` and `{ANSWERED}`
+- `{BOUNDS}` and `{ANSWERED}`, and the types of `{TYPES}`
 
 Inner words: `{TABLES}`
 
@@ -154,6 +156,7 @@ Inner words: `{TABLES}`
                (f"{TABLES} is listed, and isn't one", f"{TABLES} isn't listed")),
         Change("an inner word among those to be believed", BOUNDS, "-- how", "abbrev pub few : ℕ\nfew = 4\n\n-- how",
                ("to be believed: limit", "inner: few")),
+        Change("a type in a file that isn't told", DOCUMENT, f", and the types of `{TYPES}`", "", (f"{TYPES} isn't told",)),
         Change("a public contract with an inner word", CALLS, "{ Answered", "{ Roomy n × Answered",
                (f"{TABLES} isn't listed", f"{TABLES} is listed, and isn't one")),
     ),
