@@ -1,9 +1,11 @@
 -- Each public contract allows one answer: any two answers that it allows for the same input are equal, with the lent places that they leave.
 use mathlib.Core.Path.{◌≡◌, refl, sym, ap, ◌∙◌}
-use mathlib.Core.Logic.{⊎_elim}
+use mathlib.Core.Logic.{◌⊎◌, inl, inr, ⊎_elim}
+use mathlib.Core.Bool.{cond}
 use mathlib.Core.List.{List, [], ◌∷◌}
 use Prim.Native.Nat.{ℕ, suc, ◌≤◌, ◌<◌}
 use native.Mathlib.Omega.{arith}
+use lib.Dec.{eqb}
 use lib.IntN.{ℤ, pos}
 use lib.ListN.{length, get_or}
 use lib.Seq.{ext_get_or}
@@ -16,6 +18,11 @@ use Rattle.model.proofs.Lists.{le_or_lt}
 use Rattle.model.proofs.Lattice.{first_unique}
 use Rattle.model.proofs.LowestStamp.{lowest_one, lowest_exactly}
 use Rattle.record.specs.declared.Refusal.{Refusal}
+use Rattle.record.specs.declared.reasons.Reason.{Reason}
+use Rattle.record.specs.declared.reasons.Reason.TheVariants.{TooLong, CutShort, WrongLength, WrongKind, Limit, Format, Name, Field, Start, Side, Pairing}
+use Rattle.record.specs.declared.reasons.Reason.TheVariants.{Circle, Clock, NotLinear, NoRoom, WrongCut, NoChannel}
+use Rattle.record.specs.Refusal.{number}
+use Rattle.record.specs.Reason.{NamesReason}
 use Rattle.run.specs.Said.{run_in}
 use Rattle.judged.specs.Judged.{Judged}
 use Rattle.judged.proofs.Once.{judged_one}
@@ -201,3 +208,46 @@ made_one (made h e) (made h' e') = (refl, e ∙ sym e')
 made_one (made h e) (too_short h' e') = absurd (omega arith)
 made_one (too_short h e) (made h' e') = absurd (omega arith)
 made_one (too_short h e) (too_short h' e') = (refl, e ∙ sym e')
+
+-- ---- the refusal of a number
+
+-- from 1 on in their order
+abbrev by_number : ℕ → Reason
+by_number n =
+    cond (eqb n 1) TooLong (cond (eqb n 2) CutShort (cond (eqb n 3) WrongLength (cond (eqb n 4) WrongKind (cond (eqb n 5) Limit (cond (eqb n 6) Format
+    (cond (eqb n 7) Name (cond (eqb n 8) Field (cond (eqb n 9) Start (cond (eqb n 10) Side (cond (eqb n 11) Pairing (cond (eqb n 12) Circle
+    (cond (eqb n 13) Clock (cond (eqb n 14) NotLinear (cond (eqb n 15) NoRoom (cond (eqb n 16) WrongCut NoChannel)))))))))))))))
+
+numbered : (r : Reason) → (by_number (number r) ≡ r) × (1 ≤ number r) × (number r ≤ 17)
+numbered TooLong = (refl, omega arith, omega arith)
+numbered CutShort = (refl, omega arith, omega arith)
+numbered WrongLength = (refl, omega arith, omega arith)
+numbered WrongKind = (refl, omega arith, omega arith)
+numbered Limit = (refl, omega arith, omega arith)
+numbered Format = (refl, omega arith, omega arith)
+numbered Name = (refl, omega arith, omega arith)
+numbered Field = (refl, omega arith, omega arith)
+numbered Start = (refl, omega arith, omega arith)
+numbered Side = (refl, omega arith, omega arith)
+numbered Pairing = (refl, omega arith, omega arith)
+numbered Circle = (refl, omega arith, omega arith)
+numbered Clock = (refl, omega arith, omega arith)
+numbered NotLinear = (refl, omega arith, omega arith)
+numbered NoRoom = (refl, omega arith, omega arith)
+numbered WrongCut = (refl, omega arith, omega arith)
+numbered NoChannel = (refl, omega arith, omega arith)
+
+-- two reasons have two numbers
+pub reason_one : (x y : Reason) → number x ≡ number y → x ≡ y
+reason_one x y e = sym (numbered x).0 ∙ ap by_number e ∙ (numbered y).0
+
+no_reason : {n : ℕ} (x : Reason) → n ≡ number x → (n ≡ 0) ⊎ (17 < n) → ⊥
+no_reason x e (inl z) = omega (arith, e, z, (numbered x).1)
+no_reason x e (inr l) = omega (arith, e, l, (numbered x).2)
+
+-- `Reason::try_from`
+pub named_one : (n : ℕ) (a b : Result Reason ℕ) → NamesReason n a → NamesReason n b → a ≡ b
+named_one n (Ok x) (Ok y) p q = ap Ok (reason_one x y (sym p ∙ q))
+named_one n (Ok x) (Err k) p q = absurd (no_reason x p q.1)
+named_one n (Err m) (Ok y) p q = absurd (no_reason y q p.1)
+named_one n (Err m) (Err k) p q = ap Err (p.0 ∙ sym q.0)

@@ -226,9 +226,9 @@ run_long {s} {x} j l = go j refl
   where
     go : {r : Result Head Refusal} → Judged s r → r ≡ Err x → Over Run s x
     go (by_pass y d) e = let same : y ≡ x = cc in only_long Run (of_records run_numbers) s tt (pass_refused s x (rw same at d)) l
-    go (by_pairing at d w) e = let same : refusal Run Pairing at ≡ x = cc in let no = ap Refusal.reason same ∙ l in never (cc (no))
-    go (by_circle at d n w) e = let same : refusal Run Circle at ≡ x = cc in let no = ap Refusal.reason same ∙ l in never (cc (no))
-    go (by_clock at d n m w) e = let same : refusal Run Clock at ≡ x = cc in let no = ap Refusal.reason same ∙ l in never (cc (no))
+    go (by_pairing at d w) e = never (cc)
+    go (by_circle at d n w) e = never (cc)
+    go (by_clock at d n m w) e = never (cc)
     go (wholly d n m o) e = never (cc)
 
 pub condition_long : (c : List ℕ) (h : Head) (x : Refusal) → D.read_of c h ≡ Err x → x.reason ≡ TooLong → Over Condition c x
@@ -238,7 +238,7 @@ condition_long c h x e l = only_long Condition (of_records condition_numbers) c 
 pub answer_long : {s c lent lent' : List ℕ} {a : Result Outcome Refusal} (x : Refusal) → Answered s c lent lent' a → a ≡ Err x → x.reason ≡ TooLong → Over Run s x ⊎ Over Condition c x
 answer_long x (run_refused y j d) e l = let same : y ≡ x = cc in inl (run_long (rw same at j) l)
 answer_long x (cond_refused y j d r) e l = let same : y ≡ x = cc in inr (condition_long _ _ x (rw same at d) l)
-answer_long x (few b h d) e l = let same : refusal Run NoRoom 0 ≡ x = cc in let no = ap Refusal.reason same ∙ l in never (cc (no))
+answer_long x (few b h d) e l = never (cc)
 answer_long x (none b h n d) e l = never (cc)
 answer_long x (found b h cut f w) e l = never (cc)
 
