@@ -1,4 +1,4 @@
--- Which numbers the refusals of a run have, which those of a condition, and what a call can give.
+-- Which numbers the refusals of a run have, which those of a condition, of which files 1 is said, and what a call can give.
 use Rattle.std.specs.Prelude.{◌≡◌, ◌⊎◌, ◌<◌, ℕ, length}
 use mathlib.Core.List.{List, [], ◌∷◌, Memᴰ}
 use Rattle.record.specs.declared.File.{File}
